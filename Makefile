@@ -1,7 +1,7 @@
 # `make` alone prints the targets. They need the kit's command `rt`, and Debian's packages, which they install by
 # themselves where they may.
 
-PROGRAM := crates/cli/out/cli
+PROGRAM := crates/sefgulaw_loader/out/sefgulaw_loader
 EXAMPLE := examples/session.jsonl
 
 # The system's interpreter has Debian's libraries. Another `python3` may stand before it on the path.
@@ -20,8 +20,8 @@ help:  ## prints this list
 quick:  ## answers an example with the program, which is interpreted; nothing is proved (minutes)
 	@tools/install-packages run
 	@echo 'A quick look: the program is interpreted, and nothing is proved.'
-	@cd crates/cli && rt try -- run < ../../$(EXAMPLE) > quick.log 2> quick.err || { tail -n 30 quick.err quick.log; exit 1; }
-	@paste -d '\n' $(EXAMPLE) crates/cli/quick.log
+	@cd crates/sefgulaw_loader && rt try -- run < ../../$(EXAMPLE) > quick.log 2> quick.err || { tail -n 30 quick.err quick.log; exit 1; }
+	@paste -d '\n' $(EXAMPLE) crates/sefgulaw_loader/quick.log
 
 # Proves what the program stands on, builds it, and shows each line of the example with its answer.
 run: build  ## proves and builds the program, and answers an example with it (an hour)
@@ -29,7 +29,7 @@ run: build  ## proves and builds the program, and answers an example with it (an
 
 build:  ## proves and builds the program (an hour)
 	@tools/install-packages run
-	@cd crates/cli && rt run -- run < /dev/null > build.log 2>&1 || { tail -n 30 build.log; exit 1; }
+	@cd crates/sefgulaw_loader && rt run -- run < /dev/null > build.log 2>&1 || { tail -n 30 build.log; exit 1; }
 
 # The program that measures, proved and built over the libraries of `build`. The gate does not build it.
 measures: build  ## builds the program that measures, over the libraries of build (minutes)

@@ -18,7 +18,7 @@ import time
 import workload
 
 HERE = os.path.dirname(os.path.abspath(__file__))
-PROGRAM = os.path.join(HERE, "../crates/cli/out/cli")
+PROGRAM = os.path.join(HERE, "../crates/sefgulaw_loader/out/sefgulaw_loader")
 
 
 def cost(words, file):

@@ -17,7 +17,7 @@ import time
 import workload
 
 HERE = os.path.dirname(os.path.abspath(__file__))
-LOADER = [os.path.join(HERE, "../crates/cli/out/cli"), "run"]
+LOADER = [os.path.join(HERE, "../crates/sefgulaw_loader/out/sefgulaw_loader"), "run"]
 
 
 class Client:

@@ -13,7 +13,7 @@ import subprocess
 import time
 
 HERE = os.path.dirname(os.path.abspath(__file__))
-PROGRAM = os.path.join(HERE, "../crates/cli/out/cli")
+PROGRAM = os.path.join(HERE, "../crates/sefgulaw_loader/out/sefgulaw_loader")
 PARTS = 65536
 FEW, MANY = 20, 220
 # What is made before, and the expression. A string of 65,536 bytes has 32,768 pieces.

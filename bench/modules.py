@@ -16,7 +16,7 @@ import tempfile
 import time
 
 HERE = os.path.dirname(os.path.abspath(__file__))
-PROGRAM = os.path.join(HERE, "../crates/cli/out/cli")
+PROGRAM = os.path.join(HERE, "../crates/sefgulaw_loader/out/sefgulaw_loader")
 REQUESTS = 40
 
 

@@ -16,7 +16,7 @@ import tempfile
 import time
 
 HERE = os.path.dirname(os.path.abspath(__file__))
-LOADER = [os.path.join(HERE, "../crates/cli/out/cli"), "run"]
+LOADER = [os.path.join(HERE, "../crates/sefgulaw_loader/out/sefgulaw_loader"), "run"]
 AT_ONCE = 200
 
 

@@ -75,10 +75,10 @@ def placed(room, repository, *crates):
 
 def wrong_places(room):
     """Yields where `tools/embed` does not do what the page says of it."""
-    own = {"crates.txt": "mine: texts\n", "crates/mine/src/lib.rt": "// mine\n"}
+    own = {"crates.txt": "mine: base_types\n", "crates/mine/src/lib.rt": "// mine\n"}
     for name, more, said in (
-        ("named", {"crates/texts/src/lib.rt": "// another\n"}, "has a crate of this name"),
-        ("listed", {"crates.txt": "texts:\nmine: texts\n"}, "has a crate of this name"),
+        ("named", {"crates/base_types/src/lib.rt": "// another\n"}, "has a crate of this name"),
+        ("listed", {"crates.txt": "base_types:\nmine: base_types\n"}, "has a crate of this name"),
         (
             "strict",
             {"HANDLES": "Handles allowed: Wait.\n"},
@@ -94,7 +94,7 @@ def wrong_places(room):
     if status or not words.startswith("embed: 3 crates are placed, of which "):
         yield f"three crates: status {status}, {words!r}"
     if (
-        not first["crates.txt"].endswith("# end: crates of sefgulaw\nmine: texts\n")
+        not first["crates.txt"].endswith("# end: crates of sefgulaw\nmine: base_types\n")
         or "HANDLES" not in first
     ):
         yield "three crates: another crates.txt, or no HANDLES"
@@ -102,9 +102,9 @@ def wrong_places(room):
     status, words, second = placed(room, repository, "shelf", "labels")
     if status or second != first:
         yield f"again: status {status}, {words!r}, or other files"
-    status, words, third = placed(room, repository, "texts")
+    status, words, third = placed(room, repository, "base_types")
     folders = {path.split("/")[1] for path in third if path.startswith("crates/")}
-    if status or folders != {"mine", "texts"} or third["crates.txt"].count(":") != 4:
+    if status or folders != {"mine", "base_types"} or third["crates.txt"].count(":") != 4:
         yield f"one crate: status {status}, {words!r}, folders {folders}"
 
 

@@ -25,7 +25,7 @@ from harness.report import Report  # noqa: E402
 
 # The checks that the gate runs, in their order.
 GATE = ["golden", "language", "many", "journal", "words", "devices", "cuts", "talk"]
-BUILT = "crates/cli/out/cli"
+BUILT = "crates/sefgulaw_loader/out/sefgulaw_loader"
 
 
 def names() -> list[str]:

@@ -6,8 +6,8 @@ it by `make measures`, or by `make shelf-trials`, `make readers`, `make overlaps
 The gate does not build these programs, and it stops at each source outside the crates of
 crates.txt. So the sources end in `.rattle`, and the proofs in `.proof`. The kit builds only crates
 that are proved, in a repository. So this script makes a room outside this repository, with the
-program as a crate over the libraries that are built here. `make build` builds those of `cli`; the
-script builds those that the program needs beside them.
+program as a crate over the libraries that are built here. `make build` builds those of the program;
+the script builds those that the program needs beside them.
 
 The room is among the temporary files. Where they are on another disk, the copied libraries take
 some 6 GB there.
@@ -139,10 +139,10 @@ class Build:
         return f"{room}/crates/{self.name}"
 
     def build_libraries(self, log: IO[str]) -> bool:
-        """Proves and builds the libraries which `cli` does not use. Returns whether all went
+        """Proves and builds the libraries which the program does not use. Returns whether all went
         well."""
-        of_cli = below("cli", self.uses)
-        missing = [it for it in self.crates if it not in of_cli and it not in BESIDE]
+        of_program = below("sefgulaw_loader", self.uses)
+        missing = [it for it in self.crates if it not in of_program and it not in BESIDE]
         words, none = ["rt", "lib"], subprocess.DEVNULL
         return all(run(self.crate(it), log, words, none) for it in missing)
 

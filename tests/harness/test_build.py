@@ -25,16 +25,16 @@ cat >> "out/${PWD##*/}"
 
 
 class BuildTest(unittest.TestCase):
-    """A repository with the crates `low` and `cli`, and the program of trials."""
+    """A repository with the crates `low` and `sefgulaw_loader`, and the program of trials."""
 
     def setUp(self) -> None:
         """Makes the repository, and puts the script at the head of the path."""
         room = tempfile.TemporaryDirectory()
         self.addCleanup(room.cleanup)
         self.root = room.name
-        self.write("crates.txt", "low: thiserror\nmore: low\ncli backend=rattle: low\n")
+        self.write("crates.txt", "low: thiserror\nmore: low\nsefgulaw_loader backend=rattle: low\n")
         self.write("HANDLES", "")
-        for name in ("low", "more", "cli"):
+        for name in ("low", "more", "sefgulaw_loader"):
             self.write(f"crates/{name}/src/lib.rt", f"// {name}\n")
         self.write("crates/low/out/rlib/stamp", "low is built\n")
         self.write("tests/trials/uses", "trials: more core\n")

@@ -23,9 +23,9 @@ from style.tree import Tree  # noqa: E402
 
 # Modules whose declarations are rows of tests.
 ROWS = (
-    "Rattle.meaning.proofs.Examples",
-    "Rattle.answers.proofs.Rows",
-    "Rattle.language.proofs.RowsOf*",
+    "Rattle.values_semantics.proofs.Examples",
+    "Rattle.loader_replies.proofs.Rows",
+    "Rattle.evaluator_semantics.proofs.RowsOf*",
 )
 # The proofs of a function: what is public in them is an answer to the prover.
 OF_FUNCTIONS = ("Answers", "Invariants", "Proof")

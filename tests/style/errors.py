@@ -6,29 +6,32 @@ from collections.abc import Iterator
 
 from style.tree import Tree
 
-# The files that may call each maker of `texts::Memory`: those that know its reason.
+# The files that may call each maker of `base_types::Memory`: those that know its reason.
 MAKERS = {
     "no_number_left": {
-        "crates/freezing/src/laying.rt",
-        "crates/heap/src/heap.rt",
-        "crates/heap/src/objects.rt",
-        "crates/numbered/src/flat.rt",
-        "crates/numbered/src/table.rt",
+        "crates/values_freeze/src/laying.rt",
+        "crates/values_heap/src/heap.rt",
+        "crates/values_heap/src/objects.rt",
+        "crates/node_table/src/flat.rt",
+        "crates/node_table/src/table.rt",
         "crates/round/src/out_keys.rt",
         "crates/shelf/src/keeper/publishing.rt",
     },
-    "over_the_heap_limit": {"crates/heap/src/heap.rt"},
-    "object_not_there": {"crates/heap/src/heap_object.rt", "crates/heap/src/objects.rt"},
+    "over_the_heap_limit": {"crates/values_heap/src/heap.rt"},
+    "object_not_there": {
+        "crates/values_heap/src/heap_object.rt",
+        "crates/values_heap/src/objects.rt",
+    },
     "told_by_library": {
-        "crates/commands/src/reading.rt",
-        "crates/pool/src/crew.rt",
+        "crates/loader_commands/src/reading.rt",
+        "crates/pool/src/workers.rt",
         "crates/shelf/src/history.rt",
         "crates/shelf/src/keeper/sending.rt",
     },
 }
-# `texts` has the error itself, and `shelf` tells `left_right` of one by the error that this library
-# takes.
-HOMES = ("crates/texts/src/memory.rt", "crates/shelf/src/store.rt")
+# `base_types` has the error itself, and `shelf` tells `left_right` of one by the error that this
+# library takes.
+HOMES = ("crates/base_types/src/memory.rt", "crates/shelf/src/store.rt")
 # Where `AllocError` is a type and no value.
 TYPES = re.compile(
     r"^\s*(ghost )?use .*;$|->[^{;]*|\bFrom<AllocError>|\w+: &?AllocError|IsOkUnless[^}]*"

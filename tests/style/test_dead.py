@@ -130,11 +130,14 @@ class DeadTest(unittest.TestCase):
 
     def test_rows_and_programs_are_live(self) -> None:
         rows = "use Rattle.a.specs.A.{seen}\npub row : ℕ\nrow = seen\n"
-        for path in ("crates__language__proofs__RowsOfSteps_antt", "tests__t__proofs__P_proof"):
+        for path in (
+            "crates__evaluator_semantics__proofs__RowsOfSteps_antt",
+            "tests__t__proofs__P_proof",
+        ):
             with self.subTest(path):
                 found = self.dead(crates__a__specs__A_antt=SPECS, **{path: rows})
                 self.assertEqual(found, ["left", "Way", "Pair", "◌also◌"])
-        found = self.dead(crates__language__proofs__Steps_antt=rows)
+        found = self.dead(crates__evaluator_semantics__proofs__Steps_antt=rows)
         self.assertEqual(found, ["row"])
 
 

@@ -138,6 +138,13 @@ class SizeTest(RuleTest):
             path = f"{folder}a.py"
             self.breaks(sizes.check, {path: lines(401)}, f"{path}:1: 401 lines")
 
+    def test_crates(self) -> None:
+        files = {f"crates/a/src/{name}.rt": "use b;\n\n// c\n" + lines(750) for name in "xy"}
+        self.breaks(sizes.check, files)
+        files["crates/a/src/z.rt"] = lines(1)
+        fault = "crates/a/src/lib.rt:1: 1501 lines of code in the crate"
+        self.breaks(sizes.check, files, fault)
+
     def test_functions(self) -> None:
         self.breaks(sizes.check, {"a.rt": rust_function(60)})
         self.breaks(sizes.check, {"a.rt": "x\n" + rust_function(61)}, "a.rt:2: f has 61 lines")
@@ -208,16 +215,52 @@ class CrateTest(RuleTest):
         self.breaks(errors.check, {path: "Memory::no_number_left()\n"}, fault)
         taken = "use core::AllocError;\nfn f(at: AllocError) -> Result<u64, AllocError> {\n"
         self.breaks(errors.check, {path: f"{taken}    Memory::from(at) // AllocError\n"})
-        home = "crates/heap/src/heap.rt"
+        home = "crates/values_heap/src/heap.rt"
         self.breaks(errors.check, {home: "Memory::no_number_left()\n"})
 
-    def test_layers(self) -> None:
-        files = {"crates/a/src/lib.rt": "", "crates/b/src/lib.rt": ""}
-        self.breaks(layers.check, {**files, "crates.txt": "# c\na: core\n\nb may_wait=1: a\n"})
-        fault = "crates.txt:1: b uses a, which is not above it"
-        self.breaks(layers.check, {**files, "crates.txt": "b: a\na:\n"}, fault)
-        fault = "crates.txt:2: there is no crate c"
-        self.breaks(layers.check, {**files, "crates.txt": "a:\nc: a\n"}, fault)
+
+class LayerTest(RuleTest):
+    """The list of crates."""
+
+    def check(self, text: str, *faults: str) -> None:
+        """A list of crates has these faults, where some crates are there."""
+        names = ["base_a", "base_b", "labels", "syntax", "values", "values_semantics", "other_a"]
+        files = {f"crates/{it}/src/lib.rt": "" for it in names}
+        self.breaks(
+            layers.check, {**files, layers.LIST: text}, *(f"{layers.LIST}:{it}" for it in faults)
+        )
+
+    def test_uses(self) -> None:
+        base = "# base\nbase_a: core\nbase_b may_wait=1: base_a\n"
+        self.check(f"# The crates.\n\n{base}\n# files, on base\nlabels: base_a thiserror\n")
+        fault = "2: base_b uses base_a, which is not above it"
+        self.check("# base\nbase_b: base_a\nbase_a:\n", fault)
+        fault = "5: labels uses base_b, whose layer its heading lacks"
+        self.check(f"{base}# files\nlabels: base_b\n", fault)
+        self.check("# base\nbase_c: base_a\n", "2: there is no crate base_c")
+
+    def test_later_layer(self) -> None:
+        later = "# values\nvalues_semantics:\nvalues:\n"
+        self.check(f"# syntax, on values\nsyntax: values_semantics\n{later}")
+        fault = "2: syntax uses values, which is not above it"
+        self.check(f"# syntax, on values\nsyntax: values\n{later}", fault)
+
+    def test_places(self) -> None:
+        self.check("base_a:\n# base\nbase_b:\n", "1: base_a is under no heading")
+        self.check("# base\nbase_a:\nlabels:\n", "3: labels is under base")
+        self.check("# files\nlabels:\nbase_a:\n", "3: base_a is under files")
+
+    def test_headings(self) -> None:
+        fault = "1: the heading of base names {} for nothing".format
+        self.check("# base, on files\nbase_a:\n", fault("files"))
+        self.check("# base, on base\nbase_a:\nbase_b: base_a\n", fault("base"))
+        fault = "{}: no layer, or not in its place: {}".format
+        self.check("# other\nother_a:\n", fault(1, "other"))
+        self.check("# files\nlabels:\n# base\nbase_a:\n", fault(3, "base"))
+        self.check("# base\nbase_a:\n# base\nbase_b:\n", fault(3, "base"))
+        comment = "# a shared text, and so on"
+        told = f"2: a comment that is no heading: {comment}"
+        self.check(f"# base\n{comment}\nbase_a:\n", told)
 
 
 # Takes the place of `rt fmt`: it takes the spaces at the ends of lines away.

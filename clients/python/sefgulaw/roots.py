@@ -15,7 +15,7 @@ ROOT_FILES = (
 )
 PROGRAM = "sefgulaw-loader"
 VARIABLE = "SEFGULAW_LOADER"
-_BUILT = ("crates", "cli", "out", "cli")
+_BUILT = ("crates", "sefgulaw_loader", "out", "sefgulaw_loader")
 
 
 class NoTree(Exception):

@@ -79,7 +79,9 @@ class Root:
 @pytest.fixture(scope="session")
 def loader() -> str:
     """The built loader. A test without it fails."""
-    named = os.environ.get("SEFGULAW_LOADER") or str(CHECKOUT / "crates" / "cli" / "out" / "cli")
+    named = os.environ.get("SEFGULAW_LOADER") or str(
+        CHECKOUT / "crates" / "sefgulaw_loader" / "out" / "sefgulaw_loader"
+    )
     found = shutil.which(named)
     assert found, f"{named}: the loader is not built"
     return found

@@ -20,7 +20,7 @@ pub struct Left<R: Rules> {
     next: usize,
 }
 
-// Returns how much was left at a place, and gives it up.
+// Returns how much was left at a place, and drops it.
 fn count_of<R: Rules>(entry: Slot<R>) -> usize
     ensures count { result ≡ count_in entry }
     ensures few { result ≤ 1 }
@@ -32,9 +32,8 @@ fn count_of<R: Rules>(entry: Slot<R>) -> usize
 }
 
 impl<R: Rules> Board<R> {
-    /// Closes the board: gives what was not collected, each job once, as job or as its turn, in the order of places. The
-    /// host and all hands are back, and none of them holds a job, which is the caller's condition. It never waits and takes
-    /// no memory.
+    /// Closes the board: returns what was not collected, each job once, as a job or as its turn, in the order of
+    /// places. The host and all hands must be back, and no hand may have a job. It never waits and allocates nothing.
     pub fn close(self, host: Host<R>, mut hands: Vec<Hand<R>>) -> Left<R>
         requires host { IsHostAtRest self.table.shared.table_id host.seat }
         requires hands { (host.seat.me.0.hands ≡ length hands.items)
@@ -87,7 +86,7 @@ impl<R: Rules> Left<R> {
         None
     }
 
-    /// Gives up what has not been taken from it yet, and returns how much that was.
+    /// Drops what has not been taken from it yet, and returns how much that was.
     pub fn free(self) -> usize
         requires { HasRest (slots_filled self.closed.slots) self.next
             (slots_len self.closed.slots) }

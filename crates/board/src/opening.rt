@@ -2,28 +2,28 @@
 ghost use Rattle.std.specs.Prelude.{◌≡◌, All, length, IfOk, IsErrOf};
 ghost use Rattle.board.specs.declared.opening.OpenError.TheVariants as open_error;
 ghost use Rattle.board.specs.Places.{IsNewHost, IsNewHand, IsOutOfRange, IsInRange};
-ghost use Rattle.texts.specs.Refusals.{memory};
+ghost use Rattle.base_types.specs.Refusals.{memory};
 
 use crate::board::{Board, Hand, Host};
 use crate::table_rule::Enlist;
 use atomic_table::Table;
+use base_types::Memory;
 use keys::Rules;
 use std::alloc::{AllocError, Global};
-use texts::Memory;
 
 /// Why no board was opened.
 #[derive(Drop)]
 pub enum OpenError {
-    /// There are 1 to 64 places, and 1 to 16 hands.
+    /// There are not 1 to 64 places, or not 1 to 16 hands.
     Range,
-    /// A growth was refused.
+    /// An allocation failed.
     Memory(Memory),
 }
 
 impl From<AllocError> for OpenError {
     ghost use Rattle.std.specs.Prelude.{◌≡◌};
     ghost use Rattle.board.specs.declared.opening.OpenError.TheVariants.{Memory};
-    ghost use Rattle.texts.specs.Refusals.{memory};
+    ghost use Rattle.base_types.specs.Refusals.{memory};
 
     ghost from_gives = { λ _ e. e ≡ Memory memory };
 
@@ -33,7 +33,7 @@ impl From<AllocError> for OpenError {
 }
 
 impl<R: Rules> Board<R> {
-    /// Opens a board with this many places, and returns its host and so many hands. Returns `Range` exactly if there
+    /// Opens a board with this many places, and returns its host and this many hands. Returns `Range` exactly if there
     /// are not 1 to 64 places and 1 to 16 hands, and `Memory` if an allocation fails.
     pub fn open(
         alloc: Global,

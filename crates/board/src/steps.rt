@@ -8,7 +8,7 @@ ghost use Rattle.board.specs.Places.{IsAtRest, IsSame, IsFull};
 ghost use Rattle.board.specs.Plays.{looked, uses, outs, collects, answers_with};
 
 use crate::board::{Board, SeatView, Slot};
-use crate::table_rule::{Answer, Claim, Clear, Fill, Find, Post, SeeReady};
+use crate::table_rule::{Answer, Claim, Clear, LookForTurn, Post, PutJob, SeeReady};
 use crate::view::Entry;
 use atomic_table::Seat;
 use keys::{Job, Rules, Turned};
@@ -22,8 +22,8 @@ const HELD: u64 = 2;
 const ANSWERED: u64 = 3;
 
 impl<R: Rules> Board<R> {
-    // Returns whether the place is empty, by one look. If so, the host has its slot. Neither a job nor a turn is moved
-    // for a look.
+    // Returns whether the place is empty, by one look. If so, the host has its slot. A look moves neither a job nor a
+    // turn.
     pub(crate) fn finds_empty(&self, seat: &mut Seat<Slot<R>, SeatView<R>>, place: usize) -> bool
         requires { (seat.old.table_id ≡ self.now.table.shared.table_id) × (seat.old.id ≡ 0)
             × IsAtRest seat.old.me × (place < self.now.capacity) }
@@ -36,11 +36,11 @@ impl<R: Rules> Board<R> {
             )) }
         ensures full { result ≡ false → IsFull seat.old.me place seat.new.me }
     {
-        self.table.shared.load::<Fill>(seat, place) == EMPTY
+        self.table.shared.load::<PutJob>(seat, place) == EMPTY
     }
 
     // Posts the job at the empty place whose slot the host has.
-    pub(crate) fn fill(&self, seat: &mut Seat<Slot<R>, SeatView<R>>, place: usize, job: Job<R>)
+    pub(crate) fn put_job(&self, seat: &mut Seat<Slot<R>, SeatView<R>>, place: usize, job: Job<R>)
         requires { (seat.old.table_id ≡ self.now.table.shared.table_id) × (seat.old.id ≡ 0)
             × (place < self.now.capacity) × (seat.old.me.0.using ≡ Some (place, Empty))
             × (seat.old.me.1 ≡ (place, None) ∷ []) }
@@ -56,8 +56,8 @@ impl<R: Rules> Board<R> {
     }
 
     // Claims the place if it is ready, and returns whether it was. If so, the hand has its slot. A place that is not
-    // ready costs a load, which other threads do not feel.
-    pub(crate) fn claims(&self, seat: &mut Seat<Slot<R>, SeatView<R>>, place: usize) -> bool
+    // ready costs a load, which does not disturb other threads.
+    pub(crate) fn try_claim(&self, seat: &mut Seat<Slot<R>, SeatView<R>>, place: usize) -> bool
         requires { (seat.old.table_id ≡ self.now.table.shared.table_id)
             × (seat.old.me.0.is_host ≡ false) × (seat.old.me.0.live ≡ 1) × IsAtRest seat.old.me
             × (place < self.now.capacity) }
@@ -96,7 +96,7 @@ impl<R: Rules> Board<R> {
     }
 
     // Answers the job that the hand took at the place.
-    pub(crate) fn answer_at(
+    pub(crate) fn put_turn(
         &self,
         seat: &mut Seat<Slot<R>, SeatView<R>>,
         place: usize,
@@ -118,7 +118,7 @@ impl<R: Rules> Board<R> {
     }
 
     // Returns whether the place is answered, by one look. If so, the host has its slot.
-    pub(crate) fn finds_turn(&self, seat: &mut Seat<Slot<R>, SeatView<R>>, place: usize) -> bool
+    pub(crate) fn try_collect(&self, seat: &mut Seat<Slot<R>, SeatView<R>>, place: usize) -> bool
         requires { (seat.old.table_id ≡ self.now.table.shared.table_id) × (seat.old.id ≡ 0)
             × IsAtRest seat.old.me × (place < self.now.capacity) }
         ensures same { IsSame seat.old seat.new }
@@ -132,10 +132,13 @@ impl<R: Rules> Board<R> {
         ensures none { result ≡ false → (n : _) × (n ≢ 3)
             × (seat.new.me ≡ (looked seat.old.me.0 place n, [])) }
     {
-        self.table.shared.load::<Find<Turned<R>>>(seat, place) == ANSWERED
+        self.table
+            .shared
+            .load::<LookForTurn<Turned<R>>>(seat, place)
+            == ANSWERED
     }
 
-    // Takes the turn out of the slot of the place, which the host has. The place is empty then.
+    // Takes the turn out of the slot of the place, which the host has. The place is then empty.
     pub(crate) fn clear(&self, seat: &mut Seat<Slot<R>, SeatView<R>>, place: usize) -> Turned<R>
         requires { (seat.old.table_id ≡ self.now.table.shared.table_id) × (seat.old.id ≡ 0)
             × (place < self.now.capacity)

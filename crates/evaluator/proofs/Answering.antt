@@ -4,7 +4,7 @@ use Rattle.std.specs.Prelude.{min, zip}
 use Rattle.std.specs.declared.alloc.Global.{Global}
 use Rattle.std.specs.declared.sync.Arc.{Arc}
 use Rattle.std.specs.declared.vec.Vec.{Vec}
-use Rattle.texts.specs.declared.text.Text.{Text}
+use Rattle.base_types.specs.declared.text.Text.{Text}
 use Rattle.evaluator.specs.Files.{shared_texts}
 
 none_left : (ps : List (List ℕ)) → zip {X = List (List ℕ)} ps [] ≡ []

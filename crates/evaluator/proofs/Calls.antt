@@ -2,36 +2,36 @@
 use Rattle.std.proofs.Common.{◌≡◌, ◌+◌, ◌++◌, ◌∷◌, [], ℕ, zero, suc, List, Option, Some, None, Vec, Global, vec_len, drop, map, reverse, MatchOption, refl, sym, ap, ◌∙◌, Err}
 use Rattle.std.specs.Option.{option_to_list}
 use Rattle.std.proofs.lemmas.List.{reverse-append, nil_from_length}
-use Rattle.meaning.specs.declared.val.Val.{Val}
-use Rattle.meaning.specs.Functions.{KeywordArguments}
-use Rattle.tree.specs.Tree.{Fn, Suite}
-use Rattle.language.proofs.Below.{Asks, Below}
-use Rattle.package_calls.specs.View.{EndsAs}
-use Rattle.names.specs.View.{Ran}
-use Rattle.heap.specs.declared.halt.Halt.{Halt}
-use Rattle.heap.specs.declared.halt.Halt.TheVariants.{Code, Memory}
-use Rattle.frames.specs.declared.frame.Control.{Control}
-use Rattle.frames.specs.Frames.{Goes, Sig, a_value, an_exit, given_by}
+use Rattle.values_semantics.specs.declared.val.Val.{Val}
+use Rattle.values_semantics.specs.Functions.{KeywordArguments}
+use Rattle.syntax_tree.specs.Tree.{Fn, Suite}
+use Rattle.evaluator_semantics.proofs.Below.{Asks, Below}
+use Rattle.evaluator_package_calls.specs.View.{EndsAs}
+use Rattle.evaluator_state.specs.View.{Ran}
+use Rattle.values_heap.specs.declared.halt.Halt.{Halt}
+use Rattle.values_heap.specs.declared.halt.Halt.TheVariants.{Code, Memory}
+use Rattle.evaluator_frames.specs.declared.frame.Control.{Control}
+use Rattle.evaluator_frames.specs.Frames.{Goes, Sig, a_value, an_exit, given_by}
 use Rattle.evaluator.specs.declared.machine.Environment.{Environment}
 use Rattle.evaluator.specs.declared.machine.Machine.{Machine}
 use Rattle.evaluator.specs.declared.machine.Stop.{Stop}
 use Rattle.evaluator.specs.declared.machine.Stop.TheVariants as stops
 use Rattle.evaluator.specs.Machines.{Stops, Leads, Under, site_at}
-use Rattle.language.specs.World.{World, Site, Block, Here, Ends, ended, failed, waits, Runs, then_runs, ◌>>=◌, pure, with_blocks, in_blocks}
-use Rattle.language.specs.Statements as s
-use Rattle.language.specs.Statements.{suite}
-use Rattle.language.specs.Environment.{Env, need_names, functions_of, function_named}
-use Rattle.language.specs.Calls.{call, enter, given, function_block, body_does}
-use Rattle.calls.specs.declared.functions.Open.{Open}
-use Rattle.calls.specs.View.{open_of, running_of}
+use Rattle.evaluator_semantics.specs.World.{World, Site, Block, Here, Ends, ended, failed, waits, Runs, then_runs, ◌>>=◌, pure, with_blocks, in_blocks}
+use Rattle.evaluator_semantics.specs.Statements as s
+use Rattle.evaluator_semantics.specs.Statements.{suite}
+use Rattle.evaluator_semantics.specs.Environment.{Env, need_names, functions_of, function_named}
+use Rattle.evaluator_semantics.specs.Calls.{call, enter, result_of_completion, function_block, body_does}
+use Rattle.evaluator_calls.specs.declared.functions.ActiveCall.{ActiveCall}
+use Rattle.evaluator_calls.specs.View.{open_of, running_of}
 use Rattle.evaluator.specs.Finding.{body_runs, calls_on}
 
 -- the functions that are open, without the last one
-pub one_closed : (v w : Vec Open Global) (o : Option Open) → v.items ≡ w.items ++ option_to_list o → MatchOption o ((vec_len v ≡ 0) × (vec_len w ≡ 0)) (λ _. vec_len w + 1 ≡ vec_len v) → drop 1 (running_of v.items) ≡ running_of w.items
-one_closed v w (Some x) e h = ap (λ (l : List Open). drop 1 (map open_of (reverse l))) e ∙ ap (λ (l : List Open). drop 1 (map open_of l)) (reverse-append w.items (x ∷ []))
+pub one_closed : (v w : Vec ActiveCall Global) (o : Option ActiveCall) → v.items ≡ w.items ++ option_to_list o → MatchOption o ((vec_len v ≡ 0) × (vec_len w ≡ 0)) (λ _. vec_len w + 1 ≡ vec_len v) → drop 1 (running_of v.items) ≡ running_of w.items
+one_closed v w (Some x) e h = ap (λ (l : List ActiveCall). drop 1 (map open_of (reverse l))) e ∙ ap (λ (l : List ActiveCall). drop 1 (map open_of l)) (reverse-append w.items (x ∷ []))
 one_closed v w None e h =
     let nil : w.items ≡ [] = nil_from_length w.items (sym w.ok.0 ∙ h.1) in
-    ap (λ (l : List Open). drop 1 (map open_of (reverse l))) (e ∙ ap (λ (l : List Open). l ++ []) nil) ∙ ap (λ (l : List Open). map open_of (reverse l)) (sym nil)
+    ap (λ (l : List ActiveCall). drop 1 (map open_of (reverse l))) (e ∙ ap (λ (l : List ActiveCall). l ++ []) nil) ∙ ap (λ (l : List ActiveCall). map open_of (reverse l)) (sym nil)
 
 -- a call, where so many more may be open
 pub call_enters : (env : Env) (n : ℕ) → call env n ≡ enter env (body_runs env n)
@@ -61,7 +61,7 @@ needs_stop env n label name xs ns here w code needs =
 
 -- the body of a function, above a frame that ends the call
 pub body_above : (e : Ends s.Exit) (blocks : List Block) (j : Sig → Runs Sig)
-    → then_runs (then_runs (then_runs (then_runs e (λ a u. ended a (with_blocks blocks u))) (λ exit. pure (given exit))) (λ v. pure (a_value v))) j
+    → then_runs (then_runs (then_runs (then_runs e (λ a u. ended a (with_blocks blocks u))) (λ exit. pure (result_of_completion exit))) (λ v. pure (a_value v))) j
     ≡ then_runs (then_runs e (λ exit. pure (an_exit exit))) (λ sig u. then_runs (ended (given_by sig) (with_blocks blocks u)) j)
 body_above (ended exit u) blocks j = refl
 body_above (failed c site) blocks j = refl
@@ -69,11 +69,11 @@ body_above (waits ps) blocks j = refl
 
 -- the body of a function where at least one more call may be open
 pub body_goes : (env : Env) (left k : ℕ) (f : Fn) (ps : Block) (within here : Here) → left ≡ suc k
-    → body_does (body_runs env left) f ps within here ≡ (in_blocks (function_block f ps ∷ []) (suite env (call env k) f.body within) >>= λ exit. pure (given exit))
+    → body_does (body_runs env left) f ps within here ≡ (in_blocks (function_block f ps ∷ []) (suite env (call env k) f.body within) >>= λ exit. pure (result_of_completion exit))
 body_goes env left k f ps within here e = ap (λ n. body_does (body_runs env n) f ps within here) e
 
 -- one more function is open
-pub one_opened : (running : List Open) (open' : Open) → running_of (running ++ open' ∷ []) ≡ open_of open' ∷ running_of running
+pub one_opened : (running : List ActiveCall) (open' : ActiveCall) → running_of (running ++ open' ∷ []) ≡ open_of open' ∷ running_of running
 one_opened running open' = ap (map open_of) (reverse-append running (open' ∷ []))
 
 -- the same body, where it stands in memory

@@ -12,40 +12,40 @@ use Rattle.std.specs.contracts.hash.FoldHasher as Hasher
 use Rattle.std.specs.contracts.impls.GlobalAllocator.TheImpl as Heap
 use Rattle.indexmap.proofs.map.IndexMap.TheSendSync as IndexMapSends
 use Rattle.indexmap.specs.contracts.map.IndexMap
-use Rattle.texts.proofs.text.Text.TheSendSync as TextSends
-use Rattle.meaning.proofs.key.Key.TheSendSync as KeySends
-use Rattle.meaning.proofs.builtin.Builtin.TheSendSync as BuiltinSends
-use Rattle.meaning.proofs.val.Entry.TheSendSync as EntrySends
-use Rattle.meaning.proofs.val.Val.TheSendSync as ValSends
-use Rattle.meaning.specs.contracts.key.Key
-use Rattle.meaning.specs.contracts.val.Entry
-use Rattle.tree.proofs.expr.BinaryOp.TheSendSync as BinarySends
-use Rattle.tree.proofs.expr.UnaryOp.TheSendSync as UnarySends
-use Rattle.freezing.proofs.frozen.Frozen.TheLaws.TheKnot as frozen
-use Rattle.freezing.proofs.laid.Laid.TheSendSync as LaidSends
-use Rattle.freezing.specs.contracts.value.FrozenValue
-use Rattle.module_values.specs.contracts.bindings.Function
-use Rattle.module_values.proofs.functions.Index.TheSendSync as IndexSends
-use Rattle.module_values.specs.contracts.functions.Functions
-use Rattle.module_values.specs.contracts.modules.ModuleValue
-use Rattle.module_values.specs.contracts.modules.Module
-use Rattle.names.proofs.state.Block.TheSendSync as BlockSends
-use Rattle.names.proofs.state.Standing.TheSendSync as StandingSends
-use Rattle.names.proofs.state.State.TheSendSync as StateSends
-use Rattle.names.proofs.aims.Aim.TheLaws.TheKnot as aims
-use Rattle.names.proofs.gathering.Collection.TheSendSync as CollectionSends
-use Rattle.names.specs.contracts.aims.Aim
-use Rattle.calls.proofs.functions.Open.TheSendSync as OpenSends
-use Rattle.package_calls.proofs.kinds.Package.TheSendSync as PackageSends
-use Rattle.frames.proofs.frame.Exit.TheSendSync as ExitSends
-use Rattle.frames.proofs.frame.Purpose.TheSendSync as PurposeSends
-use Rattle.frames.specs.contracts.frame.Comprehension
-use Rattle.frames.specs.contracts.frame.Control
-use Rattle.frames.specs.contracts.frame.Frame
-use Rattle.frames.specs.contracts.frame.Gathering
-use Rattle.frames.specs.contracts.frame.MethodCall
-use Rattle.frames.specs.contracts.frame.Signal
-use Rattle.frames.specs.contracts.frame.Turns
+use Rattle.base_types.proofs.text.Text.TheSendSync as TextSends
+use Rattle.values_semantics.proofs.key.Key.TheSendSync as KeySends
+use Rattle.values_semantics.proofs.builtin.Builtin.TheSendSync as BuiltinSends
+use Rattle.values_semantics.proofs.val.Entry.TheSendSync as EntrySends
+use Rattle.values_semantics.proofs.val.Val.TheSendSync as ValSends
+use Rattle.values_semantics.specs.contracts.key.Key
+use Rattle.values_semantics.specs.contracts.val.Entry
+use Rattle.syntax_tree.proofs.expr.BinaryOp.TheSendSync as BinarySends
+use Rattle.syntax_tree.proofs.expr.UnaryOp.TheSendSync as UnarySends
+use Rattle.values_freeze.proofs.frozen.Frozen.TheLaws.TheKnot as frozen
+use Rattle.values_freeze.proofs.laid.Layout.TheSendSync as LaidSends
+use Rattle.values_freeze.specs.contracts.value.FrozenValue
+use Rattle.values_modules.specs.contracts.bindings.Function
+use Rattle.values_modules.proofs.functions.Index.TheSendSync as IndexSends
+use Rattle.values_modules.specs.contracts.functions.Functions
+use Rattle.values_modules.specs.contracts.modules.ModuleValue
+use Rattle.values_modules.specs.contracts.modules.Module
+use Rattle.evaluator_state.proofs.state.Block.TheSendSync as BlockSends
+use Rattle.evaluator_state.proofs.state.Position.TheSendSync as StandingSends
+use Rattle.evaluator_state.proofs.state.State.TheSendSync as StateSends
+use Rattle.evaluator_state.proofs.lvalues.LValue.TheLaws.TheKnot as aims
+use Rattle.evaluator_state.proofs.gathering.Collection.TheSendSync as CollectionSends
+use Rattle.evaluator_state.specs.contracts.lvalues.LValue
+use Rattle.evaluator_calls.proofs.functions.ActiveCall.TheSendSync as OpenSends
+use Rattle.evaluator_package_calls.proofs.kinds.Package.TheSendSync as PackageSends
+use Rattle.evaluator_frames.proofs.frame.Exit.TheSendSync as ExitSends
+use Rattle.evaluator_frames.proofs.frame.Purpose.TheSendSync as PurposeSends
+use Rattle.evaluator_frames.specs.contracts.frame.Comprehension
+use Rattle.evaluator_frames.specs.contracts.frame.Control
+use Rattle.evaluator_frames.specs.contracts.frame.Frame
+use Rattle.evaluator_frames.specs.contracts.frame.Gathering
+use Rattle.evaluator_frames.specs.contracts.frame.MethodCall
+use Rattle.evaluator_frames.specs.contracts.frame.Signal
+use Rattle.evaluator_frames.specs.contracts.frame.Turns
 use Rattle.evaluator.proofs.Trees.{trees_cross}
 use Rattle.evaluator.specs.contracts.machine.Environment
 use Rattle.evaluator.specs.contracts.machine.Machine
@@ -84,10 +84,10 @@ ruleset plain_cross = (ValSends.the_field_send, ValSends.the_send, BuiltinSends.
 
 ruleset parts_cross = (ExitSends.the_field_send, PurposeSends.the_field_send, StandingSends.the_field_send, BlockSends.the_send, CollectionSends.the_field_send, entries_send)
 
-aim_send : IsSend Aim.the_row
+aim_send : IsSend LValue.the_row
 aim_send = search (aims.crosses, crosses, sendable) depth 60 fits 20000
 
-aim_field_send : IsSend (Aim.the_field).row
+aim_field_send : IsSend (LValue.the_field).row
 aim_field_send = search (aims.crosses, crosses, sendable) depth 60 fits 20000
 
 comprehension_send : IsSend Comprehension.the_row

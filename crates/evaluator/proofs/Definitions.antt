@@ -1,18 +1,18 @@
 -- A function is made, its defaults are kept, and its name is bound.
 use Rattle.std.proofs.Common.{◌≡◌, ℕ, List, Err, ap, ◌∙◌}
-use Rattle.heap.specs.declared.halt.Halt.{Halt}
-use Rattle.heap.specs.declared.halt.Halt.TheVariants.{Code, Memory}
-use Rattle.meaning.specs.declared.val.Val.{Val}
-use Rattle.meaning.specs.Outcome as o
-use Rattle.meaning.specs.Heap.{Store, makes, function}
-use Rattle.language.specs.World.{World, Here, at_site, Ends, ended, Runs, then_runs, ◌>>=◌, pure}
-use Rattle.language.specs.Names.{bind}
-use Rattle.language.specs.Files.{keep_defaults}
-use Rattle.language.specs.Statements as s
-use Rattle.language.specs.Statements.{goes_on}
-use Rattle.names.specs.View.{Ran}
-use Rattle.frames.specs.declared.frame.Control.{Control}
-use Rattle.frames.specs.Frames.{Sig, an_exit, Goes}
+use Rattle.values_heap.specs.declared.halt.Halt.{Halt}
+use Rattle.values_heap.specs.declared.halt.Halt.TheVariants.{Code, Memory}
+use Rattle.values_semantics.specs.declared.val.Val.{Val}
+use Rattle.values_semantics.specs.Outcome as o
+use Rattle.values_semantics.specs.Heap.{Store, makes, function}
+use Rattle.evaluator_semantics.specs.World.{World, Here, at_site, Ends, ended, Runs, then_runs, ◌>>=◌, pure}
+use Rattle.evaluator_semantics.specs.Names.{bind}
+use Rattle.evaluator_semantics.specs.Files.{keep_defaults}
+use Rattle.evaluator_semantics.specs.Statements as s
+use Rattle.evaluator_semantics.specs.Statements.{goes_on}
+use Rattle.evaluator_state.specs.View.{Ran}
+use Rattle.evaluator_frames.specs.declared.frame.Control.{Control}
+use Rattle.evaluator_frames.specs.Frames.{Sig, an_exit, Goes}
 
 module _ (h : Here) (label name : List ℕ) (xs : List Val) (w : World) (t : Store) (made : Val) (j : Sig → Runs Sig) (made_so : makes (function label name) w.store ≡ o.gives made t) where
   abbrev p : s.Exit → Runs Sig

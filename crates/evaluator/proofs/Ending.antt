@@ -1,15 +1,15 @@
 -- Files that end.
 use Rattle.std.proofs.Common.{◌≡◌, ℕ, List, [], Result, Ok, Err, ap, sym, subst, ◌∙◌}
-use Rattle.texts.specs.declared.memory.Memory as t
-use Rattle.heap.specs.declared.halt.Halt.{Halt}
-use Rattle.heap.specs.declared.halt.Halt.TheVariants.{Code, Memory}
-use Rattle.module_values.specs.Values.{ModuleValue}
-use Rattle.names.specs.declared.state.Standing.{Standing}
-use Rattle.names.specs.View.{here_of, Ran}
-use Rattle.language.specs.World.{World, Ends, ended, failed, then_runs, pure}
-use Rattle.language.specs.Environment.{Env}
-use Rattle.language.specs.Files as l
-use Rattle.language.specs.Files.{a_module, a_fault, file_level, frozen_module, leaves, outcome_of}
+use Rattle.base_types.specs.declared.memory.Memory as t
+use Rattle.values_heap.specs.declared.halt.Halt.{Halt}
+use Rattle.values_heap.specs.declared.halt.Halt.TheVariants.{Code, Memory}
+use Rattle.values_modules.specs.Values.{ModuleValue}
+use Rattle.evaluator_state.specs.declared.state.Position.{Position}
+use Rattle.evaluator_state.specs.View.{here_of, Ran}
+use Rattle.evaluator_semantics.specs.World.{World, Ends, ended, failed, then_runs, pure}
+use Rattle.evaluator_semantics.specs.Environment.{Env}
+use Rattle.evaluator_semantics.specs.Files as l
+use Rattle.evaluator_semantics.specs.Files.{a_module, a_fault, file_level, frozen_module, leaves, outcome_of}
 use Rattle.evaluator.specs.declared.machine.Stop.{Stop}
 use Rattle.evaluator.specs.declared.machine.Stop.TheVariants as stops
 use Rattle.evaluator.specs.declared.outcome.Outcome.{Outcome}
@@ -18,7 +18,7 @@ use Rattle.evaluator.specs.Machines.{Stops, site_at}
 use Rattle.evaluator.specs.Outcomes.{IsLeft, Shows}
 
 -- where the statements of a file stand, in memory
-abbrev pub level_of : Env → Standing
+abbrev pub level_of : Env → Position
 level_of env = record { label = env.label; path = env.path; kind = env.kind; line = 0 }
 
 -- what a part ends with that stops
@@ -42,15 +42,15 @@ stop_left out (stops.Memory _) (Ok r) e h = absurd h
 stop_left out (stops.Memory _) (Err m) e h = tt
 
 -- the module of a file, and a fault where it is frozen
-pub module_left : (env : Env) (at : Standing) (w u : World) (loaded : ModuleValue) → at ≡ level_of env → frozen_module env (here_of at 0 []) w ≡ ended loaded u → outcome_of (then_runs (frozen_module env (file_level env) w) (λ m. pure (a_module m))) ≡ a_module loaded
+pub module_left : (env : Env) (at : Position) (w u : World) (loaded : ModuleValue) → at ≡ level_of env → frozen_module env (here_of at 0 []) w ≡ ended loaded u → outcome_of (then_runs (frozen_module env (file_level env) w) (λ m. pure (a_module m))) ≡ a_module loaded
 module_left env at w u loaded is e =
-    ap (λ (s : Standing). outcome_of (then_runs (frozen_module env (here_of s 0 []) w) (λ m. pure (a_module m)))) (sym is)
+    ap (λ (s : Position). outcome_of (then_runs (frozen_module env (here_of s 0 []) w) (λ m. pure (a_module m)))) (sym is)
     ∙ ap (λ o. outcome_of (then_runs o (λ m. pure (a_module m)))) e
 
-pub module_fails : (env : Env) (at : Standing) (w u : World) (halt : Halt) (stop : Stop) → at ≡ level_of env → Ran {A = ModuleValue} (site_at at.path 0) (frozen_module env (here_of at 0 []) w) (Err halt) u → Stops at.path 0 halt stop → Stopped (then_runs (frozen_module env (file_level env) w) (λ m. pure (a_module m))) stop
+pub module_fails : (env : Env) (at : Position) (w u : World) (halt : Halt) (stop : Stop) → at ≡ level_of env → Ran {A = ModuleValue} (site_at at.path 0) (frozen_module env (here_of at 0 []) w) (Err halt) u → Stops at.path 0 halt stop → Stopped (then_runs (frozen_module env (file_level env) w) (λ m. pure (a_module m))) stop
 module_fails env at w u halt stop is e h =
-    let out = λ (s : Standing). then_runs (frozen_module env (here_of s 0 []) w) (λ m. pure (a_module m)) in
-    subst (λ (s : Standing). Stopped (out s) stop) is (stopped_by (out at) at.path 0 halt stop u (behind halt e) h)
+    let out = λ (s : Position). then_runs (frozen_module env (here_of s 0 []) w) (λ m. pure (a_module m)) in
+    subst (λ (s : Position). Stopped (out s) stop) is (stopped_by (out at) at.path 0 halt stop u (behind halt e) h)
   where
     behind : (halt : Halt) → Ran {A = ModuleValue} (site_at at.path 0) (frozen_module env (here_of at 0 []) w) (Err halt) u → Ran {A = l.Outcome} (site_at at.path 0) (then_runs (frozen_module env (here_of at 0 []) w) (λ m. pure (a_module m))) (Err halt) u
     behind (Code c) e = ap (λ o. then_runs o (λ m. pure (a_module m))) e

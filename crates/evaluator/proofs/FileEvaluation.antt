@@ -1,27 +1,27 @@
 -- The evaluation of a file, where a machine stands in it.
 use Rattle.std.proofs.Common.{◌≡◌, ◌++◌, ℕ, List, [], Result, Ok, Err, refl, ap, sym, subst, ◌∙◌}
-use Rattle.texts.specs.declared.memory.Memory as t
+use Rattle.base_types.specs.declared.memory.Memory as t
 use Rattle.std.specs.Arc.{arc_value}
 use Rattle.std.specs.declared.alloc.Global.{Global}
 use Rattle.std.specs.declared.sync.Arc.{Arc}
-use Rattle.tree.specs.declared.def.File.{File}
-use Rattle.tree.specs.Statements.{file_of}
-use Rattle.tree.specs.Tree.{Fi, Tp}
-use Rattle.module_values.specs.Values.{ModuleValue}
-use Rattle.names.specs.declared.state.Standing.{Standing}
-use Rattle.language.specs.World.{World, Here, Ends, ended, failed, waits, Runs, then_runs, pure}
-use Rattle.language.specs.Environment.{Env, Answers}
-use Rattle.language.specs.Laws.{KnowsMore, with_answers}
-use Rattle.language.specs.Files as l
-use Rattle.language.specs.Files.{a_fault, all_steps, start, open_calls, file_level, leading, loads, tops, leaves, outcome_of, evaluate}
-use Rattle.language.specs.Statements as s
-use Rattle.language.proofs.MoreAnswers.{answer_stays}
-use Rattle.names.specs.View.{world_of, here_of}
-use Rattle.frames.specs.declared.frame.Frame.{Frame}
-use Rattle.frames.specs.declared.frame.Control.{Control}
-use Rattle.frames.specs.declared.frame.Control.TheVariants as controls
-use Rattle.frames.specs.Frames.{Sig, an_exit, machine_does, stack_does, tops_do}
-use Rattle.frames.proofs.Bind.{then_assoc, stack_empty}
+use Rattle.syntax_tree.specs.declared.def.File.{File}
+use Rattle.syntax_tree.specs.Statements.{file_of}
+use Rattle.syntax_tree.specs.Tree.{Fi, Tp}
+use Rattle.values_modules.specs.Values.{ModuleValue}
+use Rattle.evaluator_state.specs.declared.state.Position.{Position}
+use Rattle.evaluator_semantics.specs.World.{World, Here, Ends, ended, failed, waits, Runs, then_runs, pure}
+use Rattle.evaluator_semantics.specs.Environment.{Env, Answers}
+use Rattle.evaluator_semantics.specs.Laws.{KnowsMore, with_answers}
+use Rattle.evaluator_semantics.specs.Files as l
+use Rattle.evaluator_semantics.specs.Files.{a_fault, all_steps, start, open_calls, file_level, leading, loads, tops, leaves, outcome_of, evaluate}
+use Rattle.evaluator_semantics.specs.Statements as s
+use Rattle.evaluator_semantics.proofs.MoreAnswers.{answer_stays}
+use Rattle.evaluator_state.specs.View.{world_of, here_of}
+use Rattle.evaluator_frames.specs.declared.frame.Frame.{Frame}
+use Rattle.evaluator_frames.specs.declared.frame.Control.{Control}
+use Rattle.evaluator_frames.specs.declared.frame.Control.TheVariants as controls
+use Rattle.evaluator_frames.specs.Frames.{Sig, an_exit, machine_does, stack_does, tops_do}
+use Rattle.evaluator_frames.proofs.Bind.{then_assoc, stack_empty}
 use Rattle.evaluator.specs.declared.machine.Environment.{Environment}
 use Rattle.evaluator.specs.declared.machine.Machine.{Machine}
 use Rattle.evaluator.specs.declared.machine.Stop.{Stop}
@@ -74,7 +74,7 @@ stands_first e m file is left none here opened = λ more knows.
     ∙ ap (λ (h : Here). outcome_of (left_behind env (machine_does env m.left h (controls.Tops file 0) m.frames.items w))) (sym here)
 
 -- what stands before the statements of a file, under other names of what it is about
-pub opens_same : (e : Environment) (file : Fi) (modules : List ModuleValue) (at : Standing) (w : World) (r : Result (Unit {0}) Stop) (u : World)
+pub opens_same : (e : Environment) (file : Fi) (modules : List ModuleValue) (at : Position) (w : World) (r : Result (Unit {0}) Stop) (u : World)
     → file ≡ (env_of e).file → modules ≡ (env_of e).loads → at ≡ level_of (env_of e) → w ≡ start all_steps (env_of e)
     → Opened (opens file modules (here_of at at.line []) w) r u → Opened (opens (env_of e).file (env_of e).loads (file_level (env_of e)) (start all_steps (env_of e))) r u
 opens_same e file modules at w r u a b c d h =

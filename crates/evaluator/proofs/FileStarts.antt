@@ -1,18 +1,18 @@
 -- Files that begin: the leading string and the loads.
 use Rattle.std.proofs.Common.{◌≡◌, ◌<◌, ◌+◌, ℕ, suc, List, ◌∷◌, length, drop, drop-cons, add-one, map, Ok, Err, ap, sym, ◌∙◌}
 use Rattle.std.specs.Prelude.{slice_index_or}
-use Rattle.heap.specs.declared.halt.Halt.{Halt}
-use Rattle.heap.specs.declared.halt.Halt.TheVariants.{Code, Memory}
-use Rattle.heap.specs.View.{Says}
-use Rattle.meaning.specs.Outcome as o
-use Rattle.meaning.specs.Heap.{Store, walks}
-use Rattle.tree.specs.Statements.{load_of}
-use Rattle.tree.specs.declared.def.LoadStmt.{LoadStmt}
-use Rattle.module_values.specs.Values.{ModuleValue}
-use Rattle.names.specs.View.{Ran}
-use Rattle.language.specs.World.{World, Here, at_line, at_site, Ends, ended, failed, Runs, then_runs, tick}
-use Rattle.language.specs.Files.{load_items, loads}
-use Rattle.frames.proofs.Bind.{tick_is, then_assoc}
+use Rattle.values_heap.specs.declared.halt.Halt.{Halt}
+use Rattle.values_heap.specs.declared.halt.Halt.TheVariants.{Code, Memory}
+use Rattle.values_heap.specs.View.{Says}
+use Rattle.values_semantics.specs.Outcome as o
+use Rattle.values_semantics.specs.Heap.{Store, walks}
+use Rattle.syntax_tree.specs.Statements.{load_of}
+use Rattle.syntax_tree.specs.declared.def.LoadStmt.{LoadStmt}
+use Rattle.values_modules.specs.Values.{ModuleValue}
+use Rattle.evaluator_state.specs.View.{Ran}
+use Rattle.evaluator_semantics.specs.World.{World, Here, at_line, at_site, Ends, ended, failed, Runs, then_runs, tick}
+use Rattle.evaluator_semantics.specs.Files.{load_items, loads}
+use Rattle.evaluator_frames.proofs.Bind.{tick_is, then_assoc}
 use Rattle.evaluator.specs.declared.machine.Stop.{Stop}
 use Rattle.evaluator.specs.declared.machine.Stop.TheVariants as stops
 use Rattle.evaluator.specs.Machines.{Stops, site_at}

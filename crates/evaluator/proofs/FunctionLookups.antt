@@ -4,12 +4,12 @@ use Rattle.std.specs.Arc.{arc_value}
 use Rattle.std.specs.declared.alloc.Global.{Global}
 use Rattle.std.specs.declared.sync.Arc.{Arc}
 use lib.Pointwise.{bytes_decides}
-use Rattle.meaning.specs.Comparing.{same_text}
-use Rattle.tree.specs.Tree.{Fn}
-use Rattle.tree.specs.declared.def.Def.{Def}
-use Rattle.tree.specs.Statements.{fn_of}
-use Rattle.module_values.specs.FunctionNames.{first_named}
-use Rattle.language.specs.Environment.{function_named}
+use Rattle.values_semantics.specs.Comparing.{same_text}
+use Rattle.syntax_tree.specs.Tree.{Fn}
+use Rattle.syntax_tree.specs.declared.def.Def.{Def}
+use Rattle.syntax_tree.specs.Statements.{fn_of}
+use Rattle.values_modules.specs.FunctionNames.{first_named}
+use Rattle.evaluator_semantics.specs.Environment.{function_named}
 use Rattle.evaluator.specs.Finding.{IsDef}
 
 same : (x : List ℕ) (fs : List Fn) → first_named x fs ≡ function_named x fs

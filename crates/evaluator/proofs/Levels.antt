@@ -1,16 +1,16 @@
 -- The statements of a file, as the language has them and as a machine has them.
 use Rattle.std.proofs.Common.{◌≡◌, ℕ, List, [], ◌∷◌, refl, ap, sym, ◌∙◌}
-use Rattle.tree.specs.Tree as t
-use Rattle.tree.specs.Tree.{Bound, Pa, Fn, Tp}
-use Rattle.meaning.specs.declared.val.Val.{Val}
-use Rattle.meaning.specs.Heap.{makes, function}
-use Rattle.language.specs.World.{World, Here, at_line, Ends, ended, failed, waits, Runs, then_runs, ◌>>=◌, pure, on_heap, tick}
-use Rattle.language.specs.Names.{bind, change_names}
-use Rattle.language.specs.Environment.{Env}
-use Rattle.language.specs.Statements.{goes_on}
-use Rattle.language.specs.Files.{open_calls, default_value, default_values, keep_defaults, define, top, tops, file_level}
-use Rattle.frames.specs.Frames.{default_one, defaults_from, defined, defines, top_does, tops_do}
-use Rattle.frames.proofs.Bind.{then_assoc}
+use Rattle.syntax_tree.specs.Tree as t
+use Rattle.syntax_tree.specs.Tree.{Bound, Pa, Fn, Tp}
+use Rattle.values_semantics.specs.declared.val.Val.{Val}
+use Rattle.values_semantics.specs.Heap.{makes, function}
+use Rattle.evaluator_semantics.specs.World.{World, Here, at_line, Ends, ended, failed, waits, Runs, then_runs, ◌>>=◌, pure, on_heap, tick}
+use Rattle.evaluator_semantics.specs.Names.{bind, change_names}
+use Rattle.evaluator_semantics.specs.Environment.{Env}
+use Rattle.evaluator_semantics.specs.Statements.{goes_on}
+use Rattle.evaluator_semantics.specs.Files.{open_calls, default_value, default_values, keep_defaults, define, top, tops, file_level}
+use Rattle.evaluator_frames.specs.Frames.{default_one, defaults_from, defined, defines, top_does, tops_do}
+use Rattle.evaluator_frames.proofs.Bind.{then_assoc}
 
 default_same : (env : Env) (here : Here) (line : ℕ) (b : Bound) (rest : Runs (List Val)) → default_value env b (at_line line here) rest ≡ default_one env open_calls here b line rest
 default_same env here line t.no_bound rest = refl

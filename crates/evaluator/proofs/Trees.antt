@@ -2,15 +2,15 @@
 -- each of the two rings is shown once here, and the types above cite it.
 use denote.Param.Send.{IsSend, IsSync, sendable}
 use Rattle.std.proofs.Crossing.{crosses}
-use Rattle.tree.proofs.expr.Clause.TheLaws.TheKnot as expressions
-use Rattle.tree.proofs.stmt.Stmt.TheLaws.TheKnot as statements
-use Rattle.tree.specs.contracts.expr.Expr as Expr
-use Rattle.tree.specs.contracts.expr.Clause as Clause
-use Rattle.tree.specs.contracts.stmt.Stmt as Stmt
-use Rattle.tree.specs.contracts.stmt.Branch as Branch
-use Rattle.tree.specs.contracts.def.Def as Def
-use Rattle.tree.specs.contracts.def.Top as Top
-use Rattle.tree.specs.contracts.def.File as File
+use Rattle.syntax_tree.proofs.expr.Clause.TheLaws.TheKnot as expressions
+use Rattle.syntax_tree.proofs.stmt.Stmt.TheLaws.TheKnot as statements
+use Rattle.syntax_tree.specs.contracts.expr.Expr as Expr
+use Rattle.syntax_tree.specs.contracts.expr.Clause as Clause
+use Rattle.syntax_tree.specs.contracts.stmt.Stmt as Stmt
+use Rattle.syntax_tree.specs.contracts.stmt.Branch as Branch
+use Rattle.syntax_tree.specs.contracts.def.Def as Def
+use Rattle.syntax_tree.specs.contracts.def.Top as Top
+use Rattle.syntax_tree.specs.contracts.def.File as File
 
 pub expr_send : IsSend Expr.the_row
 expr_send = search (crosses, expressions.crosses_both, sendable) depth 60 fits 20000

@@ -2,19 +2,19 @@
 use Rattle.std.proofs.Common.{◌≡◌, ◌≤◌, ◌<◌, ◌+◌, ℕ, Vec, Box, Global, Ok, Err, Result, true, refl, arith}
 use Rattle.std.specs.Prelude.{IfOk, OnErr}
 use Rattle.std.specs.declared.sync.Arc.{Arc}
-use Rattle.texts.specs.declared.text.Text.{Text}
-use Rattle.heap.specs.declared.halt.Halt.{Halt}
-use Rattle.meaning.specs.declared.val.Val.{Val}
-use Rattle.meaning.specs.declared.builtin.Builtin.{Builtin}
-use Rattle.tree.specs.declared.expr.Expr.{Expr}
-use Rattle.tree.specs.declared.def.Def.{Def}
-use Rattle.names.specs.declared.aims.Aim.{Aim}
-use Rattle.frames.specs.declared.frame.Comprehension.{Comprehension}
-use Rattle.frames.specs.declared.frame.Control.{Control}
-use Rattle.frames.specs.declared.frame.MethodCall.{MethodCall}
-use Rattle.frames.specs.declared.frame.Control.TheVariants as c
-use Rattle.frames.specs.Frames.{is_within}
-use Rattle.frames.specs.Weight.{Lighter, frames_weight, control_weight}
+use Rattle.base_types.specs.declared.text.Text.{Text}
+use Rattle.values_heap.specs.declared.halt.Halt.{Halt}
+use Rattle.values_semantics.specs.declared.val.Val.{Val}
+use Rattle.values_semantics.specs.declared.builtin.Builtin.{Builtin}
+use Rattle.syntax_tree.specs.declared.expr.Expr.{Expr}
+use Rattle.syntax_tree.specs.declared.def.Def.{Def}
+use Rattle.evaluator_state.specs.declared.lvalues.LValue.{LValue}
+use Rattle.evaluator_frames.specs.declared.frame.Comprehension.{Comprehension}
+use Rattle.evaluator_frames.specs.declared.frame.Control.{Control}
+use Rattle.evaluator_frames.specs.declared.frame.MethodCall.{MethodCall}
+use Rattle.evaluator_frames.specs.declared.frame.Control.TheVariants as c
+use Rattle.evaluator_frames.specs.Frames.{is_within}
+use Rattle.evaluator_frames.specs.Weight.{Lighter, frames_weight, control_weight}
 use Rattle.evaluator.specs.declared.machine.Machine.{Machine}
 use Rattle.evaluator.specs.declared.machine.Stop.{Stop}
 use Rattle.evaluator.specs.declared.machine.Progress.{Progress}
@@ -26,7 +26,7 @@ pub within : (k : Control) → IsActing k
     → ((line : ℕ) (target : Arc Expr Global) (of : Arc Comprehension Global) (x : Val) → k ≡ c.First line target of x → ⊥)
     → ((line : ℕ) (f : Builtin) (xs : Vec Val Global) (names : Arc (Vec Text Global) Global) → k ≡ c.Builtin line f xs names → ⊥)
     → ((line : ℕ) (call : Box MethodCall Global) → k ≡ c.Method line call → ⊥)
-    → ((line : ℕ) (aim : Box Aim Global) (x y : Val) → k ≡ c.Add line aim x y → ⊥)
+    → ((line : ℕ) (aim : Box LValue Global) (x y : Val) → k ≡ c.Add line aim x y → ⊥)
     → ((line : ℕ) (def : Arc Def Global) (xs : Vec Val Global) → k ≡ c.Define line def xs → ⊥)
     → is_within k ≡ true
 within (c.Signal sig) a p r s t u = absurd a

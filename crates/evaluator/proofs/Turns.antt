@@ -1,10 +1,10 @@
 -- Turns one after another.
 use Rattle.std.proofs.Common.{◌≡◌, Result, Ok, Err, refl, ◌∙◌}
-use Rattle.language.specs.World.{Ends}
-use Rattle.language.specs.Environment.{Env}
-use Rattle.language.specs.Laws.{KnowsMore}
-use Rattle.frames.specs.declared.frame.Control.{Control}
-use Rattle.frames.specs.Frames.{Sig}
+use Rattle.evaluator_semantics.specs.World.{Ends}
+use Rattle.evaluator_semantics.specs.Environment.{Env}
+use Rattle.evaluator_semantics.specs.Laws.{KnowsMore}
+use Rattle.evaluator_frames.specs.declared.frame.Control.{Control}
+use Rattle.evaluator_frames.specs.Frames.{Sig}
 use Rattle.evaluator.specs.declared.machine.Environment.{Environment}
 use Rattle.evaluator.specs.declared.machine.Machine.{Machine}
 use Rattle.evaluator.specs.declared.machine.Stop.{Stop}

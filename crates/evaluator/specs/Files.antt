@@ -4,15 +4,15 @@ use Rattle.std.specs.Arc.{arc_value}
 use Rattle.std.specs.declared.alloc.Global.{Global}
 use Rattle.std.specs.declared.sync.Arc.{Arc}
 use Rattle.std.specs.declared.vec.Vec.{Vec}
-use Rattle.texts.specs.declared.text.Text.{Text}
-use Rattle.tree.specs.Tree.{Fi, Ld}
-use Rattle.module_values.specs.Values.{Body, ModuleValue}
-use Rattle.language.specs.World.{World, Here, at_line, Ends, ended, failed, Runs, then_runs, ◌>>=◌, tick}
-use Rattle.language.specs.Environment.{Env}
-use Rattle.language.specs.Laws.{with_answers}
-use Rattle.language.specs.Files.{Outcome, a_need, leading, load_items, loads, file_level, leaves, outcome_of, evaluate}
-use Rattle.frames.specs.declared.frame.Control.{Control}
-use Rattle.frames.specs.Frames.{Sig}
+use Rattle.base_types.specs.declared.text.Text.{Text}
+use Rattle.syntax_tree.specs.Tree.{Fi, Ld}
+use Rattle.values_modules.specs.Values.{Body, ModuleValue}
+use Rattle.evaluator_semantics.specs.World.{World, Here, at_line, Ends, ended, failed, Runs, then_runs, ◌>>=◌, tick}
+use Rattle.evaluator_semantics.specs.Environment.{Env}
+use Rattle.evaluator_semantics.specs.Laws.{with_answers}
+use Rattle.evaluator_semantics.specs.Files.{Outcome, a_need, leading, load_items, loads, file_level, leaves, outcome_of, evaluate}
+use Rattle.evaluator_frames.specs.declared.frame.Control.{Control}
+use Rattle.evaluator_frames.specs.Frames.{Sig}
 use Rattle.evaluator.specs.declared.machine.Environment.{Environment}
 use Rattle.evaluator.specs.declared.machine.Machine.{Machine}
 use Rattle.evaluator.specs.declared.machine.Stop.{Stop}

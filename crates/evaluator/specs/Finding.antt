@@ -3,22 +3,22 @@ use Rattle.std.specs.Prelude.{◌≡◌, ℕ, zero, suc, List, Option, Some, Non
 use Rattle.std.specs.Arc.{arc_value}
 use Rattle.std.specs.declared.alloc.Global.{Global}
 use Rattle.std.specs.declared.sync.Arc.{Arc}
-use Rattle.meaning.specs.declared.val.Val.{Val}
-use Rattle.meaning.specs.Outcome.{checked}
-use Rattle.meaning.specs.Functions.{KeywordArguments}
-use Rattle.tree.specs.Tree.{Fn, Suite}
-use Rattle.tree.specs.declared.def.Def.{Def}
-use Rattle.tree.specs.Statements.{fn_of}
-use Rattle.language.specs.World.{Here, Runs, ◌>>=◌, fault, on_heap}
-use Rattle.language.specs.Environment.{Env, path_of, functions_of, function_named, defaults_of}
-use Rattle.language.specs.Arguments.{arguments}
-use Rattle.language.specs.Statements.{Exit, suite}
-use Rattle.language.specs.Calls.{call, is_running, inside, body_does}
-use Rattle.heap.specs.declared.halt.Halt.{Halt}
-use Rattle.heap.specs.declared.halt.Halt.TheVariants.{Code, Memory}
-use Rattle.meaning.specs.Heap.{Obj, function}
-use Rattle.meaning.specs.declared.faults.TheConstants.{RECURSION, WRONG_TYPE}
-use Rattle.language.specs.Expressions.{Call, call_object}
+use Rattle.values_semantics.specs.declared.val.Val.{Val}
+use Rattle.values_semantics.specs.Outcome.{lift_fault}
+use Rattle.values_semantics.specs.Functions.{KeywordArguments}
+use Rattle.syntax_tree.specs.Tree.{Fn, Suite}
+use Rattle.syntax_tree.specs.declared.def.Def.{Def}
+use Rattle.syntax_tree.specs.Statements.{fn_of}
+use Rattle.evaluator_semantics.specs.World.{Here, Runs, ◌>>=◌, fault, on_heap}
+use Rattle.evaluator_semantics.specs.Environment.{Env, path_of, functions_of, function_named, defaults_of}
+use Rattle.evaluator_semantics.specs.Arguments.{arguments}
+use Rattle.evaluator_semantics.specs.Statements.{Exit, suite}
+use Rattle.evaluator_semantics.specs.Calls.{call, is_running, inside, body_does}
+use Rattle.values_heap.specs.declared.halt.Halt.{Halt}
+use Rattle.values_heap.specs.declared.halt.Halt.TheVariants.{Code, Memory}
+use Rattle.values_semantics.specs.Heap.{Obj, function}
+use Rattle.values_semantics.specs.declared.faults.TheConstants.{RECURSION, WRONG_TYPE}
+use Rattle.evaluator_semantics.specs.Expressions.{Call, call_object}
 use Rattle.evaluator.specs.declared.entering.FunctionName.{FunctionName}
 use Rattle.evaluator.specs.declared.finding.Callee.{Callee}
 
@@ -36,7 +36,7 @@ body_runs env (suc n) = Some (suite env (call env n))
 -- a call behind the names of the function's file and the function
 abbrev pub calls_on : Env → ℕ → List ℕ → Fn → List Val → KeywordArguments → Here → Runs Val
 calls_on env n label f xs ns here =
-    (λ w. on_heap here (checked (arguments f xs ns (defaults_of label f.name w))) w) >>= λ parameters.
+    (λ w. on_heap here (lift_fault (arguments f xs ns (defaults_of label f.name w))) w) >>= λ parameters.
     if is_running label f.name here.running then fault RECURSION here else body_does (body_runs env n) f parameters (inside env label f here) here
 
 -- the function with a name of the file with a label, or none such

@@ -1,20 +1,20 @@
 -- What a machine in the middle of a file means, and how far a turn of it leads.
 use Rattle.std.specs.Prelude.{◌≡◌, ◌<◌, ℕ, ◌+◌, List, Result, Ok, Err}
 use Rattle.std.specs.Arc.{arc_value}
-use Rattle.heap.specs.declared.halt.Halt.{Halt}
-use Rattle.heap.specs.declared.halt.Halt.TheVariants.{Code, Memory}
-use Rattle.tree.specs.Statements.{file_of}
-use Rattle.language.specs.World.{Here, Site, Ends, ended, failed, waits}
-use Rattle.language.specs.Environment.{Env, Answers}
-use Rattle.language.specs.Laws.{KnowsMore, with_answers}
-use Rattle.names.specs.View.{world_of, here_of}
-use Rattle.package_calls.specs.View.{answers_of}
-use Rattle.calls.specs.View.{running_of}
-use Rattle.frames.specs.declared.frame.Control.{Control}
-use Rattle.frames.specs.declared.frame.Control.TheVariants as c
-use Rattle.frames.specs.Frames.{Sig, sig_of, machine_does}
-use Rattle.frames.specs.Weight.{Lighter, frames_weight, control_weight}
-use Rattle.frames.specs.Ahead.{AsLight}
+use Rattle.values_heap.specs.declared.halt.Halt.{Halt}
+use Rattle.values_heap.specs.declared.halt.Halt.TheVariants.{Code, Memory}
+use Rattle.syntax_tree.specs.Statements.{file_of}
+use Rattle.evaluator_semantics.specs.World.{Here, Site, Ends, ended, failed, waits}
+use Rattle.evaluator_semantics.specs.Environment.{Env, Answers}
+use Rattle.evaluator_semantics.specs.Laws.{KnowsMore, with_answers}
+use Rattle.evaluator_state.specs.View.{world_of, here_of}
+use Rattle.evaluator_package_calls.specs.View.{answers_of}
+use Rattle.evaluator_calls.specs.View.{running_of}
+use Rattle.evaluator_frames.specs.declared.frame.Control.{Control}
+use Rattle.evaluator_frames.specs.declared.frame.Control.TheVariants as c
+use Rattle.evaluator_frames.specs.Frames.{Sig, sig_of, machine_does}
+use Rattle.evaluator_frames.specs.Weight.{Lighter, frames_weight, control_weight}
+use Rattle.evaluator_frames.specs.Ahead.{AsLight}
 use Rattle.evaluator.specs.declared.machine.Environment.{Environment}
 use Rattle.evaluator.specs.declared.machine.Machine.{Machine}
 use Rattle.evaluator.specs.declared.machine.Stop.{Stop}

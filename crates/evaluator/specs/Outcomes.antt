@@ -1,10 +1,10 @@
 -- The outcome of a file, in memory. Where memory was refused nothing is said.
 use Rattle.std.specs.Prelude.{◌≡◌, Result, Ok, Err}
-use Rattle.texts.specs.declared.memory.Memory.{Memory}
-use Rattle.language.specs.World.{Ends}
-use Rattle.language.specs.Environment.{Env}
-use Rattle.language.specs.Files as l
-use Rattle.language.specs.Files.{a_module, a_package, a_need, a_fault, outcome_of, evaluate}
+use Rattle.base_types.specs.declared.memory.Memory.{Memory}
+use Rattle.evaluator_semantics.specs.World.{Ends}
+use Rattle.evaluator_semantics.specs.Environment.{Env}
+use Rattle.evaluator_semantics.specs.Files as l
+use Rattle.evaluator_semantics.specs.Files.{a_module, a_package, a_need, a_fault, outcome_of, evaluate}
 use Rattle.evaluator.specs.declared.machine.Stop.{Stop}
 use Rattle.evaluator.specs.declared.machine.Stop.TheVariants as s
 use Rattle.evaluator.specs.declared.outcome.Outcome.{Outcome}

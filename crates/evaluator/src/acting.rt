@@ -1,25 +1,25 @@
 //! What stands between the steps of the frames: comprehensions that begin, calls that evaluate no expression of a file, and
 //! functions that are bound.
 ghost use Rattle.std.specs.Prelude.{◌≡◌, ◌≤◌, ◌<◌, ◌+◌, ℕ, List, IfOk};
-ghost use Rattle.language.specs.World.{Here};
-ghost use Rattle.language.specs.Environment.{Env};
-ghost use Rattle.names.specs.View.{world_of, here_of};
-ghost use Rattle.frames.specs.Frames.{Goes, on, machine_does};
-ghost use Rattle.frames.specs.Weight.{Lighter, frames_weight, control_weight};
-ghost use Rattle.frames.specs.declared.frame.Control.TheVariants as c;
+ghost use Rattle.evaluator_semantics.specs.World.{Here};
+ghost use Rattle.evaluator_semantics.specs.Environment.{Env};
+ghost use Rattle.evaluator_state.specs.View.{world_of, here_of};
+ghost use Rattle.evaluator_frames.specs.Frames.{Goes, on, machine_does};
+ghost use Rattle.evaluator_frames.specs.Weight.{Lighter, frames_weight, control_weight};
+ghost use Rattle.evaluator_frames.specs.declared.frame.Control.TheVariants as c;
 
-use calls::{comprehension_block, keep_defaults};
-use frames::{Comprehension, Control, Exit, Frame, Gathering, MethodCall, Signal, push};
-use heap::{Builtin, Halt, Object, Val};
-use names::{
-    Aim, Block, Standing, State, add, bind, call_builtin, call_method, items, lock, nothing_yet,
-    store,
+use base_types::Text;
+use evaluator_calls::{comprehension_block, keep_defaults};
+use evaluator_frames::{Comprehension, Control, Exit, Frame, Gathering, MethodCall, Signal, push};
+use evaluator_state::{
+    Block, LValue, Position, State, add, bind, call_builtin, call_method, empty_collection, items,
+    lock, store,
 };
 use std::alloc::Global;
 use std::sync::Arc;
 use std::sync::atomic::AtomicUsize;
-use texts::Text;
-use tree::{Def, Expr};
+use syntax_tree::{Def, Expr};
+use values_heap::{Builtin, Halt, Object, Val};
 
 /// Calls a built-in function.
 pub fn built_in(
@@ -62,9 +62,9 @@ pub fn of_value(state: &mut State, line: usize, call: Box<MethodCall>) -> Result
 /// Adds two values for `x += y`, and stores the sum in the target.
 pub fn added(
     state: &mut State,
-    at: &Standing,
+    at: &Position,
     line: usize,
-    aim: Box<Aim>,
+    aim: Box<LValue>,
     x: Val,
     y: Val,
 ) -> Result<Control, Halt>
@@ -115,13 +115,13 @@ pub fn begin_block(
         next: 0,
     };
     let turns = Box::new(alloc, turns)?;
-    Ok(Control::Gather(turns, Box::new(alloc, nothing_yet(alloc))?))
+    Ok(Control::Gather(turns, Box::new(alloc, empty_collection(alloc))?))
 }
 
 /// Makes a function, keeps the values of its defaults, and binds its name.
 pub fn define(
     state: &mut State,
-    at: &Standing,
+    at: &Position,
     line: usize,
     def: &Arc<Def, Global>,
     xs: Vec<Val>,

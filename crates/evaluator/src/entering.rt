@@ -1,37 +1,37 @@
 //! How a call of a function of a file begins, and how it ends.
 ghost use Rattle.std.specs.Prelude.{◌≡◌, ◌≤◌, ◌<◌, ◌+◌, ◌++◌, ◌∷◌, [], ℕ, IfOk, OnErr, IsOkUnless};
-ghost use Rattle.heap.specs.declared.halt.Halt.TheVariants.{Memory};
-ghost use Rattle.names.specs.View.{held, world_of};
-ghost use Rattle.language.specs.World as world;
-ghost use Rattle.language.specs.Calls.{call, inside, function_block, body_does};
-ghost use Rattle.language.specs.Expressions.{call_object};
-ghost use Rattle.meaning.specs.Heap.{at};
-ghost use Rattle.heap.specs.View.{store_of};
-ghost use Rattle.tree.specs.Statements.{fn_of};
-ghost use Rattle.language.specs.Arguments.{plain_part, named_part};
-ghost use Rattle.language.specs.Environment.{Env, path_of};
-ghost use Rattle.frames.specs.Frames.{Goes, on, valued, above, machine_does};
-ghost use Rattle.frames.specs.Weight.{frames_weight, control_weight};
-ghost use Rattle.frames.specs.declared.frame.Control.TheVariants as c;
-ghost use Rattle.frames.specs.declared.frame.Frame.TheVariants as f;
+ghost use Rattle.values_heap.specs.declared.halt.Halt.TheVariants.{Memory};
+ghost use Rattle.evaluator_state.specs.View.{block_view, world_of};
+ghost use Rattle.evaluator_semantics.specs.World as world;
+ghost use Rattle.evaluator_semantics.specs.Calls.{call, inside, function_block, body_does};
+ghost use Rattle.evaluator_semantics.specs.Expressions.{call_object};
+ghost use Rattle.values_semantics.specs.Heap.{at};
+ghost use Rattle.values_heap.specs.View.{store_of};
+ghost use Rattle.syntax_tree.specs.Statements.{fn_of};
+ghost use Rattle.evaluator_semantics.specs.Arguments.{plain_part, named_part};
+ghost use Rattle.evaluator_semantics.specs.Environment.{Env, path_of};
+ghost use Rattle.evaluator_frames.specs.Frames.{Goes, on, valued, above, machine_does};
+ghost use Rattle.evaluator_frames.specs.Weight.{frames_weight, control_weight};
+ghost use Rattle.evaluator_frames.specs.declared.frame.Control.TheVariants as c;
+ghost use Rattle.evaluator_frames.specs.declared.frame.Frame.TheVariants as f;
 ghost use Rattle.evaluator.specs.Machines.{Under, means, here_in};
 ghost use Rattle.evaluator.specs.Finding.{calls_on, body_runs, IsFunction};
-ghost use Rattle.texts.specs.Refusals.{memory};
+ghost use Rattle.base_types.specs.Refusals.{memory};
 
 use crate::finding::find;
 use crate::machine::Machine;
 use crate::setting::Setting;
-use calls::{Open, call_block, defaults_of, is_running, need_names};
-use frames::{Caller, Control, Frame, Signal, given_by, push};
-use grammar::FileKind;
-use heap::{Bytes, Halt, Heap, Look, Val};
-use meaning::faults;
-use names::{Block, Standing};
+use base_types::Text;
+use evaluator_calls::{ActiveCall, call_block, defaults_of, ensure_names, is_running};
+use evaluator_frames::{Caller, Control, Frame, Signal, given_by, push};
+use evaluator_state::{Block, Position};
 use std::alloc::Global;
 use std::mem;
 use std::sync::Arc;
-use texts::Text;
-use tree::Def;
+use syntax_grammar::FileKind;
+use syntax_tree::Def;
+use values_heap::{Bytes, Halt, Heap, ObjectRef, Val};
+use values_semantics::faults;
 
 // A function of the heap: the label of its file, and its name.
 #[derive(Drop)]
@@ -45,7 +45,7 @@ fn function_at(heap: &Heap, place: usize) -> Result<FunctionName, Halt>
     ensures { IsFunction (at place (store_of heap.now)) result }
 {
     match heap.object(place)? {
-        Some(Look::Function(label, name)) => Ok(FunctionName {
+        Some(ObjectRef::Function(label, name)) => Ok(FunctionName {
             label: label.share()?,
             name: Bytes::of_text(name.share()?),
         }),
@@ -77,7 +77,7 @@ pub fn enter(
         Ok(called) => called,
         Err(halt) => return Err(halt),
     };
-    if let Err(halt) = need_names(&mut m.state, e.given().loads.as_slice(), &label) {
+    if let Err(halt) = ensure_names(&mut m.state, e.given().loads.as_slice(), &label) {
         return Err(halt);
     }
     match find(e, &label, &name)? {
@@ -131,7 +131,7 @@ fn begin_body(
 ) -> Result<Control, Halt>
     requires { 0 < m.old.left }
     ensures goes { IfOk result (λ control. (env : Env) (line : ℕ) (parameters : world.Block)
-        → held block ≡ function_block (fn_of def.now) parameters → path ≡ path_of env label
+        → block_view block ≡ function_block (fn_of def.now) parameters → path ≡ path_of env label
         → let here = on env m.old.left (here_in m.old) line in let f = fn_of def.now in
         above env m.old.left (here_in m.old)
         (valued (body_does (body_runs env m.old.left) f parameters (inside env label f here) here))
@@ -144,7 +144,7 @@ fn begin_body(
 {
     let mut blocks = Vec::new(m.state.heap.alloc);
     blocks.push(block)?;
-    let open = Open {
+    let open = ActiveCall {
         label: label.share()?,
         name: def.name.share()?,
     };
@@ -160,7 +160,7 @@ fn begin_body(
     let back = Box::new(m.state.heap.alloc, caller)?;
     push(&mut m.frames, Frame::Leave(back))?;
     m.left -= 1;
-    m.at = Standing {
+    m.at = Position {
         label,
         path,
         kind: FileKind::Bzl,
@@ -173,11 +173,11 @@ fn begin_body(
 }
 
 // Returns the same place of code.
-fn copy_of(at: &Standing) -> Result<Standing, Halt>
+fn copy_of(at: &Position) -> Result<Position, Halt>
     ensures ok { IfOk result (λ copy. copy ≡ at.now) }
     ensures err { IsOkUnless result (Memory memory) }
 {
-    Ok(Standing {
+    Ok(Position {
         label: at.label.share()?,
         path: at.path.share()?,
         kind: at.kind,

@@ -1,21 +1,21 @@
 //! Where the function of an object stands.
 ghost use Rattle.std.specs.Prelude.{map, IfOk, IsOkUnless, Option, Some, None, option_map};
-ghost use Rattle.heap.specs.declared.halt.Halt.TheVariants.{Memory};
-ghost use Rattle.tree.specs.Statements.{top_of};
+ghost use Rattle.values_heap.specs.declared.halt.Halt.TheVariants.{Memory};
+ghost use Rattle.syntax_tree.specs.Statements.{top_of};
 ghost use Rattle.std.specs.Arc.{arc_value};
-ghost use Rattle.language.specs.Environment.{defs, function_named};
+ghost use Rattle.evaluator_semantics.specs.Environment.{defs, function_named};
 ghost use Rattle.evaluator.specs.Machines.{env_of};
 ghost use Rattle.evaluator.specs.Finding.{IsDef, IsFound};
-ghost use Rattle.texts.specs.Refusals.{memory};
+ghost use Rattle.base_types.specs.Refusals.{memory};
 
 use crate::setting::Setting;
-use calls::reached;
-use heap::{Bytes, Halt};
-use module_values::Module;
+use base_types::Text;
+use evaluator_calls::module_labelled;
 use std::alloc::Global;
 use std::sync::Arc;
-use texts::Text;
-use tree::Def;
+use syntax_tree::Def;
+use values_heap::{Bytes, Halt};
+use values_modules::Module;
 
 /// A function that was found, and the path of its file.
 #[derive(Drop)]
@@ -56,7 +56,7 @@ pub fn find(e: &Setting<'_>, label: &Text, name: &Bytes) -> Result<Option<Callee
     let (path, def) = if *label == given.label {
         (&given.path, own_function(e, name))
     } else {
-        match reached(given.loads.as_slice(), label) {
+        match module_labelled(given.loads.as_slice(), label) {
             Some(m) => (m.path(), function_in(m, name)),
             None => return Ok(None),
         }

@@ -1,5 +1,5 @@
-//! The evaluation of a file, which can wait for the answers of a glob and go on. Layer: evaluation of a file, on base,
-//! syntax and values. Begin at `running.rt` and `specs/Machines.antt`.
+//! The evaluation of a file, which can wait for the answers of a glob and go on. Begin at `running.rt` and
+//! `specs/Machines.antt`.
 #![tactic(auto)]
 
 mod acting;

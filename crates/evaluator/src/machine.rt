@@ -1,14 +1,14 @@
 //! What the evaluation of a file is given, and what it keeps while it runs.
 
-use calls::Open;
-use frames::{Control, Frame, Signal};
-use module_values::ModuleValue;
-use names::{Standing, State};
-use package_calls::Package;
+use base_types::{Memory, Text};
+use evaluator_calls::ActiveCall;
+use evaluator_frames::{Control, Frame, Signal};
+use evaluator_package_calls::Package;
+use evaluator_state::{Position, State};
 use std::alloc::Global;
 use std::sync::Arc;
-use texts::{Memory, Text};
-use tree::File;
+use syntax_tree::File;
+use values_modules::ModuleValue;
 
 /// What the evaluation of a file is given.
 #[derive(Drop)]
@@ -29,9 +29,9 @@ pub struct Machine {
     /// What waits; the last is the topmost.
     pub frames: Vec<Frame>,
     /// Where what runs stands.
-    pub at: Standing,
+    pub at: Position,
     /// The functions that are open; the last one was called last.
-    pub running: Vec<Open>,
+    pub running: Vec<ActiveCall>,
     /// How many more calls may be open.
     pub left: usize,
 }

@@ -2,10 +2,10 @@
 ghost use Rattle.std.specs.Prelude.{◌≡◌};
 
 use crate::machine::{Environment, Machine};
-use frames::Control;
-use module_values::{ModuleValue, Targets};
+use base_types::Text;
+use evaluator_frames::Control;
 use std::marker::Model;
-use texts::Text;
+use values_modules::{ModuleValue, Targets};
 
 /// A fault: its code, and the file and line where it is shown.
 #[derive(Drop)]
@@ -77,7 +77,7 @@ impl Suspended {
     /// Returns whether its values take so many bytes that it is better given up and begun again than kept. No outcome
     /// hangs on that, so no contract says anything of it.
     pub fn is_large(&self) -> bool {
-        self.machine.state.heap.held() > MOST_KEPT
+        self.machine.state.heap.allocated_bytes() > MOST_KEPT
     }
 
     /// Returns the patterns that have no answer, in order.

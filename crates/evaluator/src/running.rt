@@ -1,10 +1,10 @@
 //! Evaluates a file: how it begins, goes on and waits, and what it leaves.
 ghost use Rattle.std.specs.Prelude.{◌≡◌, ◌++◌, zip, map, IfOk, OnOk, ℕ, List};
-ghost use Rattle.tree.specs.Statements.{file_of, load_of};
-ghost use Rattle.language.specs.World.{at_line};
-ghost use Rattle.language.specs.Files.{all_steps, start, loads, leaves, file_level};
-ghost use Rattle.names.specs.View.{world_of, here_of, Ran};
-ghost use Rattle.package_calls.specs.View.{answers_of};
+ghost use Rattle.syntax_tree.specs.Statements.{file_of, load_of};
+ghost use Rattle.evaluator_semantics.specs.World.{at_line};
+ghost use Rattle.evaluator_semantics.specs.Files.{all_steps, start, loads, leaves, file_level};
+ghost use Rattle.evaluator_state.specs.View.{world_of, here_of, Ran};
+ghost use Rattle.evaluator_package_calls.specs.View.{answers_of};
 ghost use Rattle.evaluator.specs.Machines.{env_of, Stops};
 ghost use Rattle.evaluator.specs.Files.{Stands, answered, shared_texts, load_does, opens, Opened};
 ghost use Rattle.evaluator.specs.Outcomes.{Evaluates, IsLeft, Shows};
@@ -12,18 +12,18 @@ ghost use Rattle.evaluator.specs.Outcomes.{Evaluates, IsLeft, Shows};
 use crate::machine::{Environment, Machine, Progress, Stop};
 use crate::outcome::{Fault, Outcome, Suspended};
 use crate::turning::go;
-use calls::{file_block, frozen_module, load_items};
-use frames::Control;
-use grammar::FileKind;
-use heap::{Halt, Heap};
-use meaning::faults;
-use module_values::{Module, ModuleValue};
-use names::{Block, FileNames, KeptDefaults, PackageTargets, Standing, State, tick};
-use package_calls::{Answer, targets_made};
+use base_types::{Memory, Text};
+use evaluator_calls::{file_block, frozen_module, load_items};
+use evaluator_frames::Control;
+use evaluator_package_calls::{GlobResult, targets_made};
+use evaluator_state::{Block, DefaultsTable, FileNames, PackageTargets, Position, State, tick};
 use std::alloc::Global;
 use std::sync::Arc;
-use texts::{Memory, Text};
-use tree::{File, LoadStmt};
+use syntax_grammar::FileKind;
+use syntax_tree::{File, LoadStmt};
+use values_heap::{Halt, Heap};
+use values_modules::{Module, ModuleValue};
+use values_semantics::faults;
 
 // The calls of functions that may be open at once.
 const OPEN_CALLS: usize = 64;
@@ -32,7 +32,7 @@ const OPEN_CALLS: usize = 64;
 const STEPS: u64 = 1000000;
 
 /// Returns where the statements of a file stand; each has its own line.
-pub fn level(e: &Environment) -> Result<Standing, Memory>
+pub fn level(e: &Environment) -> Result<Position, Memory>
     ensures { IfOk result
         (λ at. at ≡ record {
           label = e.now.label;
@@ -42,7 +42,7 @@ pub fn level(e: &Environment) -> Result<Standing, Memory>
               = 0;
         }) }
 {
-    Ok(Standing {
+    Ok(Position {
         label: e.label.share()?,
         path: e.path.share()?,
         kind: e.package.kind,
@@ -65,7 +65,7 @@ pub fn first_state(alloc: Global, e: &Environment) -> Result<State, Memory>
     files.push(FileNames {
         label,
         block,
-        defaults: KeptDefaults::new(alloc),
+        defaults: DefaultsTable::new(alloc),
     })?;
     Ok(State {
         heap: Heap::new(alloc, STEPS),
@@ -76,7 +76,7 @@ pub fn first_state(alloc: Global, e: &Environment) -> Result<State, Memory>
 }
 
 // Returns why a statement in a line of the file stops.
-fn stop_in(at: &Standing, line: usize, halt: Halt) -> Stop
+fn stop_in(at: &Position, line: usize, halt: Halt) -> Stop
     ensures { Stops at.now.path line halt result }
 {
     match halt {
@@ -89,7 +89,7 @@ fn stop_in(at: &Standing, line: usize, halt: Halt) -> Stop
 }
 
 // Takes a step for a load statement, and binds its names.
-fn bind_load(state: &mut State, at: &Standing, body: &Module, load: &LoadStmt) -> Result<(), Halt>
+fn bind_load(state: &mut State, at: &Position, body: &Module, load: &LoadStmt) -> Result<(), Halt>
     ensures { (line : ℕ) (running : List (List ℕ × List ℕ)) → let here = here_of at.now line running
         in Ran (at_line load.now.line here).site
         (load_does body.now (load_of load.now) here (world_of state.old)) result
@@ -104,7 +104,7 @@ fn bind_load(state: &mut State, at: &Standing, body: &Module, load: &LoadStmt) -
 // Binds the names of the load statements of a file, in order. A load without a module is fault 18.
 fn bind_loads(
     state: &mut State,
-    at: &Standing,
+    at: &Position,
     statements: &[LoadStmt],
     modules: &[ModuleValue],
 ) -> Result<(), Stop>
@@ -127,7 +127,7 @@ fn bind_loads(
 /// Runs what stands before the other statements of a file: a first statement that is one string alone, and the loads.
 pub fn open_file(
     state: &mut State,
-    at: &Standing,
+    at: &Position,
     file: &File,
     modules: &[ModuleValue],
 ) -> Result<(), Stop>
@@ -193,7 +193,7 @@ fn share_all(alloc: Global, texts: &[Text]) -> Result<Vec<Text>, Memory>
 
 // Adds answers to patterns, behind the earlier ones.
 fn add_answers(
-    answers: &mut Vec<Answer>,
+    answers: &mut Vec<GlobResult>,
     patterns: &[Text],
     results: &[Arc<Vec<Text>, Global>],
 ) -> Result<(), Memory>
@@ -203,7 +203,7 @@ fn add_answers(
     for i in 0..patterns.len().min(results.len()) {
         let pattern = patterns[i].share()?;
         let paths = Arc::try_clone(&results[i])?;
-        answers.push(Answer { pattern, paths })?;
+        answers.push(GlobResult { pattern, paths })?;
     }
     Ok(())
 }

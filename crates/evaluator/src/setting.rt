@@ -1,17 +1,17 @@
 //! What the evaluation of a file is given, with the functions of the file by their names.
 ghost use Rattle.std.specs.Prelude.{◌≡◌, map, option_map, IfOk};
 ghost use Rattle.std.specs.Arc.{arc_value};
-ghost use Rattle.tree.specs.Statements.{top_of};
-ghost use Rattle.language.specs.Environment.{defs};
-ghost use Rattle.module_values.specs.FunctionNames.{first_named};
+ghost use Rattle.syntax_tree.specs.Statements.{top_of};
+ghost use Rattle.evaluator_semantics.specs.Environment.{defs};
+ghost use Rattle.values_modules.specs.FunctionNames.{first_named};
 
 use crate::machine::Environment;
-use calls::functions_of;
-use heap::Bytes;
-use module_values::{Function, Functions};
+use base_types::Memory;
+use evaluator_calls::functions_of;
 use std::alloc::Global;
 use std::marker::Model;
-use texts::Memory;
+use values_heap::Bytes;
+use values_modules::{Function, Functions};
 
 /// What the evaluation of a file is given. The functions of the file are found by their names. A contract sees what is
 /// given.
@@ -24,8 +24,8 @@ pub struct Setting<'a> {
 impl<'a> Model for Setting<'a> {
     ghost use Rattle.std.specs.Prelude.{◌≡◌, map};
     ghost use Rattle.std.specs.Arc.{arc_value};
-    ghost use Rattle.tree.specs.Statements.{top_of};
-    ghost use Rattle.language.specs.Environment.{defs};
+    ghost use Rattle.syntax_tree.specs.Statements.{top_of};
+    ghost use Rattle.evaluator_semantics.specs.Environment.{defs};
     ghost use Rattle.evaluator.specs.declared.machine.Environment.{Environment};
     ghost use Rattle.evaluator.specs.contracts.machine.Environment as e;
 
@@ -67,6 +67,6 @@ impl<'a> Setting<'a> {
         ensures { option_map (λ f. f.now) result ≡ first_named name.now
             (defs (map top_of (arc_value self.now.file).tops.items)) }
     {
-        self.functions.named(name)
+        self.functions.function_named(name)
     }
 }

@@ -1,10 +1,10 @@
 //! Turns of a machine, until it ends or waits.
 ghost use Rattle.std.specs.Prelude.{◌≡◌, ◌<◌, ◌+◌, ◌++◌, ◌∷◌, [], true, false, IfOk, OnErr};
-ghost use Rattle.language.specs.Environment.{Env};
-ghost use Rattle.names.specs.View.{world_of};
-ghost use Rattle.frames.specs.declared.frame.Control.TheVariants as c;
-ghost use Rattle.frames.specs.Frames.{Goes, on, control_line, is_leave, machine_does};
-ghost use Rattle.frames.specs.Weight.{frames_weight};
+ghost use Rattle.evaluator_semantics.specs.Environment.{Env};
+ghost use Rattle.evaluator_state.specs.View.{world_of};
+ghost use Rattle.evaluator_frames.specs.declared.frame.Control.TheVariants as c;
+ghost use Rattle.evaluator_frames.specs.Frames.{Goes, on, control_line, is_leave, machine_does};
+ghost use Rattle.evaluator_frames.specs.Weight.{frames_weight};
 ghost use Rattle.evaluator.specs.Machines.{Leads, Stops, TurnFalls, Lightens, StaysLight, Falls, StepsFall, IsOver, IsActing, means, here_in};
 
 use crate::acting::{added, begin_block, built_in, define, of_value};
@@ -12,13 +12,13 @@ use crate::entering::{enter, leave};
 use crate::machine::{Environment, Machine, Progress, Stop};
 use crate::setting::Setting;
 use crate::tidying::tidy;
-use frames::{Control, Frame, Signal, control_line, frame_line, go_on, hand_down};
-use heap::{Builtin, Halt, Val};
-use names::{Slot, Standing};
-use package_calls::{CallOutcome, package_call};
+use base_types::Text;
+use evaluator_frames::{Control, Frame, Signal, control_line, frame_line, go_on, hand_down};
+use evaluator_package_calls::{CallResult, package_call};
+use evaluator_state::{Position, Slot};
 use std::alloc::Global;
 use std::sync::Arc;
-use texts::Text;
+use values_heap::{Builtin, Halt, Val};
 
 // Returns why a part in a line stops.
 fn stop(m: &Machine, line: usize, halt: Halt) -> Stop
@@ -194,8 +194,8 @@ fn call_package(
         xs.as_slice(),
         names.as_slice(),
     ) {
-        Ok(CallOutcome::Value(value)) => Ok(Progress::Goes(Control::Signal(Signal::Value(value)))),
-        Ok(CallOutcome::Waits(patterns)) => {
+        Ok(CallResult::Value(value)) => Ok(Progress::Goes(Control::Signal(Signal::Value(value)))),
+        Ok(CallResult::Need(patterns)) => {
             let call = Control::Package {
                 line,
                 function: f,

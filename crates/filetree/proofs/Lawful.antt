@@ -9,7 +9,7 @@ use Rattle.std.proofs.lemmas.Bool.{and_parts, and_from, or_cases, false≢true}
 use Rattle.std.proofs.lemmas.Map.Text.{is_eq-slice_cmp}
 use Rattle.labels.specs.Paths.{is_path}
 use Rattle.filetree.specs.Files.{Files, put_refusal, is_below_a_file, is_directory, text_limit}
-use Rattle.filetree.specs.Changes.{Change, put, del, change_refusal, changed, first_refused, refused_or, all_changed}
+use Rattle.filetree.specs.Changes.{Change, put, del, change_refusal, files_after_change, first_refused, refused_or, all_changed}
 use Rattle.filetree.specs.Lawful.{HasPaths, EditsKeepPaths}
 use Rattle.filetree.proofs.Slashes.{same_bytes, own_bytes}
 
@@ -74,16 +74,16 @@ removals_keep files path all = paths_from (map.remove files path) (λ q h.
       | false ↦ λ g. paths_to files q all g
     ] (sym (ap is_some (map.get-remove nat_list_cmp_total files path q)) ∙ h))
 
-change_keeps : (c : Change) (files : Files) → HasPaths files → change_refusal c files ≡ None → HasPaths (changed c files)
+change_keeps : (c : Change) (files : Files) → HasPaths files → change_refusal c files ≡ None → HasPaths (files_after_change c files)
 change_keeps (put path text) files all told = puts_keep files path text all told
 change_keeps (del path) files all told = removals_keep files path all
 
 changes_keep : (at : ℕ) (cs : List Change) (files : Files) → HasPaths files → first_refused at cs files ≡ None → HasPaths (all_changed cs files)
 changes_keep at [] files all told = all
-changes_keep at (c ∷ cs) files all told = go (λ kept h. changes_keep (suc at) cs (changed c files) kept h) (change_refusal c files) refl told
+changes_keep at (c ∷ cs) files all told = go (λ kept h. changes_keep (suc at) cs (files_after_change c files) kept h) (change_refusal c files) refl told
   where
-    go : (HasPaths (changed c files) → first_refused (suc at) cs (changed c files) ≡ None → HasPaths (all_changed cs (changed c files)))
-        → (o : Option ℕ) → change_refusal c files ≡ o → refused_or at o (first_refused (suc at) cs (changed c files)) ≡ None → HasPaths (all_changed cs (changed c files))
+    go : (HasPaths (files_after_change c files) → first_refused (suc at) cs (files_after_change c files) ≡ None → HasPaths (all_changed cs (files_after_change c files)))
+        → (o : Option ℕ) → change_refusal c files ≡ o → refused_or at o (first_refused (suc at) cs (files_after_change c files)) ≡ None → HasPaths (all_changed cs (files_after_change c files))
     go more None e h = more (change_keeps c files all e) h
     go more (Some n) e h = absurd cc
 

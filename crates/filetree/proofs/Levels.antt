@@ -21,7 +21,7 @@ lookup-append : {K X : Type 0} (test : K → Bool) (xs ys : List (K × X)) → l
 lookup-append test [] ys = refl
 lookup-append test (x ∷ xs) ys = ap (cond (test x.0) (Some x.1)) (lookup-append test xs ys) ∙ or_after (test x.0) x.1 (lookup test xs) (lookup test ys)
 
--- a name is no path behind a name
+-- a name is not a path after a name
 behind_plain : (plain name : List ℕ) (es : Entries) → has_no_slash plain ≡ true → text_at (behind name es) plain ≡ None
 behind_plain plain name [] h = refl
 behind_plain plain name (e ∷ es) h =
@@ -37,7 +37,7 @@ pub at_name : (fs : Entries) (ds : List (List ℕ × Below)) (plain : List ℕ) 
 at_name fs ds plain h =
     lookup-append (bytes_eq plain) fs (flat_map (λ e. behind e.0 e.1.entries) ds) ∙ ap (option_or (text_at fs plain)) (folders_plain plain ds h) ∙ or_none (text_at fs plain)
 
--- a path behind a name is no name of a file
+-- a path after a name is not a name of a file
 files_deep : (name rest : List ℕ) (fs : Entries) → list_all (λ e. has_no_slash e.0) fs ≡ true → text_at fs (name ++ 47 ∷ rest) ≡ None
 files_deep name rest [] h = refl
 files_deep name rest (f ∷ fs) h =

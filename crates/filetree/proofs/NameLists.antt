@@ -17,7 +17,7 @@ use Rattle.filetree.proofs.Slashes.{ancestor_from, ancestor_of}
 use Rattle.filetree.proofs.Sound.{parts_of}
 use Rattle.filetree.proofs.Whole.{any_from, any_to, same_bool}
 
--- the same names stand in both
+-- the same names are in both
 abbrev pub Alike : List (List ℕ) → List (List ℕ) → Type 0
 Alike xs ys = (p : List ℕ → Bool) → list_any p xs ≡ list_any p ys
 
@@ -46,7 +46,7 @@ pub any_rest : (h : List ℕ → Option (List ℕ)) (p : List ℕ → Bool) (xs 
 any_rest h p [] = refl
 any_rest h p (x ∷ xs) = any_rest_at p (h x) (filter_map h xs) (list_any (λ x. rest_passes p (h x)) xs) (any_rest h p xs)
 
--- sorted names go by what stands in the list
+-- sorted names go by what is in the list
 same_text : (x y : List ℕ) → slice_cmp nat_cmp x y ≡ Equal → x ≡ y
 same_text = map.slice_cmp-IsAntisymmetric map.nat_cmp-IsAntisymmetric
 

@@ -93,7 +93,7 @@ pub placed : (r : Result ℕ ℕ) (P Q : ℕ → Type 0) (O : Type 0) → MatchR
 placed (Ok i) P Q O h o = h
 placed (Err i) P Q O h o = h o
 
--- a name stands at a place of a list, or would stand there
+-- a name is at a place of a list, or would be there
 abbrev pub IsAt : {X : Type 0} → List ℕ → List (List ℕ × Arc X Global) → ℕ → Type 0
 IsAt k es i = (i < length es) × HoldsAt (λ e. slice_cmp nat_cmp e.0 k ≡ Equal) es i
 
@@ -167,7 +167,7 @@ listed_set (e ∷ es) (suc i) k n v h at is =
     ap (λ r. (e.0, e.1.value) ∷ r) (listed_set es i k n v both.1 (omega arith, at.1) is)
     ∙ ap (λ b. cond b ((e.0, v.value) ∷ listed es) ((e.0, e.1.value) ∷ set_value (bytes_eq k) (listed es) v.value)) (sym (greater_apart k e.0 (other_way e.0 k Less (above e.0 k es i (omega arith) both.0 at.1))))
 
--- no entry has a name that would stand between two
+-- no entry has a name that would be between two
 apart_head : {X : Type 0} (e : List ℕ × Arc X Global) (es : List (List ℕ × Arc X Global)) (i : ℕ) (k : List ℕ) → IsBetween k (e ∷ es) i → bytes_eq k e.0 ≡ false
 apart_head e es zero k h = less_apart k e.0 (other_way e.0 k Greater (h.1 0 e (omega arith) (omega arith)))
 apart_head e es (suc i) k h = greater_apart k e.0 (other_way e.0 k Less (h.0 0 e (omega arith) (omega arith)))

@@ -122,7 +122,7 @@ ascending_distinct (e ∷ es) h =
     let both = and_parts (list_all (λ f. is_lt (slice_cmp nat_cmp e.0 f.0)) es) (is_ascending es) h in
     and_from (list_all (λ f. not (bytes_eq e.0 f.0)) es) (is_distinct es) (all_apart e.0 es both.0) (ascending_distinct es both.1)
 
--- what stands at each name
+-- what is at each name
 
 again : {X : Type 0} (b : Bool) (w v l : Option X) → cond b w l ≡ cond b w (cond b v l)
 again true w v l = refl

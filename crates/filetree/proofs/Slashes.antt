@@ -34,7 +34,7 @@ pub cut : (path : List ℕ) → Cut path
 cut [] = inl refl
 cut (b ∷ path) = cut_on b path (b == 47) refl (cut path)
 
--- a name is no path with a slash
+-- a name is not a path with a slash
 pub plain_apart : (plain name rest : List ℕ) → has_no_slash plain ≡ true → bytes_eq plain (name ++ 47 ∷ rest) ≡ false
 plain_apart [] [] rest h = refl
 plain_apart [] (b ∷ name) rest h = refl
@@ -66,7 +66,7 @@ one_cut n r m s hn hm e =
     let both = and_parts (bytes_eq n m) (bytes_eq r s) (sym (both_parts n r m s hn hm) ∙ ap (bytes_eq (n ++ 47 ∷ r)) (sym e) ∙ own_bytes (n ++ 47 ∷ r)) in
     (same_bytes n m both.0, same_bytes r s both.1)
 
--- an ancestor goes on by a slash
+-- an ancestor continues by a slash
 pub ancestor_from : (path other : List ℕ) → is_ancestor path other ≡ true → (rest : List ℕ) × (other ≡ path ++ 47 ∷ rest)
 ancestor_from [] [] h = absurd (false≢true h)
 ancestor_from [] (b ∷ other) h = (other, ap (λ x. x ∷ other) (eqb-true b 47 h))

@@ -9,7 +9,7 @@ use Rattle.std.proofs.lemmas.Bool.{false≢true, ltb-false}
 use Rattle.std.proofs.lemmas.List.{get_or_past}
 use Rattle.labels.specs.Paths.{is_path}
 use Rattle.filetree.specs.Files.{Files, put_refusal, is_ancestor, is_file, is_below_a_file, is_directory, text_limit}
-use Rattle.filetree.specs.Changes.{Change, put, del, change_refusal, changed, first_refused, refused_or, all_changed}
+use Rattle.filetree.specs.Changes.{Change, put, del, change_refusal, files_after_change, first_refused, refused_or, all_changed}
 use Rattle.filetree.specs.Trees.{AreATree, EditsMakeTrees}
 use Rattle.filetree.proofs.Lawful.{same_key, good_path}
 
@@ -113,16 +113,16 @@ removal_makes_a_tree files path tree = record {
       ] (sym (map.get-remove nat_list_cmp_total files path q) ∙ h);
 }
 
-change_makes_a_tree : (c : Change) (files : Files) → AreATree files → change_refusal c files ≡ None → AreATree (changed c files)
+change_makes_a_tree : (c : Change) (files : Files) → AreATree files → change_refusal c files ≡ None → AreATree (files_after_change c files)
 change_makes_a_tree (put path text) files tree told = put_makes_a_tree files path text tree told
 change_makes_a_tree (del path) files tree told = removal_makes_a_tree files path tree
 
 changes_make_a_tree : (at : ℕ) (cs : List Change) (files : Files) → AreATree files → first_refused at cs files ≡ None → AreATree (all_changed cs files)
 changes_make_a_tree at [] files tree told = tree
-changes_make_a_tree at (c ∷ cs) files tree told = go (λ kept h. changes_make_a_tree (suc at) cs (changed c files) kept h) (change_refusal c files) refl told
+changes_make_a_tree at (c ∷ cs) files tree told = go (λ kept h. changes_make_a_tree (suc at) cs (files_after_change c files) kept h) (change_refusal c files) refl told
   where
-    go : (AreATree (changed c files) → first_refused (suc at) cs (changed c files) ≡ None → AreATree (all_changed cs (changed c files)))
-        → (o : Option ℕ) → change_refusal c files ≡ o → refused_or at o (first_refused (suc at) cs (changed c files)) ≡ None → AreATree (all_changed cs (changed c files))
+    go : (AreATree (files_after_change c files) → first_refused (suc at) cs (files_after_change c files) ≡ None → AreATree (all_changed cs (files_after_change c files)))
+        → (o : Option ℕ) → change_refusal c files ≡ o → refused_or at o (first_refused (suc at) cs (files_after_change c files)) ≡ None → AreATree (all_changed cs (files_after_change c files))
     go more None e h = more (change_makes_a_tree c files tree e) h
     go more (Some n) e h = absurd cc
 

@@ -4,9 +4,9 @@ use Rattle.std.specs.FinMap as map
 use Rattle.filetree.specs.Files.{Files, put_refusal, del_refusal}
 use Rattle.filetree.specs.declared.error.BatchError.{BatchError}
 use Rattle.filetree.specs.declared.error.BatchError.TheVariants.{At, Memory}
-use Rattle.texts.specs.Refusals.{memory}
+use Rattle.base_types.specs.Refusals.{memory}
 
--- a text is put at a path, or the file at a path is taken away
+-- a text is put at a path, or the file at a path is removed
 pub data Change : Type 0 where
   put : List ℕ → List ℕ → Change
   del : List ℕ → Change
@@ -21,16 +21,16 @@ abbrev pub change_refusal : Change → Files → Option ℕ
 change_refusal (put path text) files = put_refusal files path text
 change_refusal (del path) files = del_refusal files path
 
-abbrev pub changed : Change → Files → Files
-changed (put path text) files = map.insert files path text
-changed (del path) files = map.remove files path
+abbrev pub files_after_change : Change → Files → Files
+files_after_change (put path text) files = map.insert files path text
+files_after_change (del path) files = map.remove files path
 
 -- the files after these changes, in their order
 abbrev pub all_changed : List Change → Files → Files
 all_changed [] files = files
-all_changed (c ∷ cs) files = all_changed cs (changed c files)
+all_changed (c ∷ cs) files = all_changed cs (files_after_change c files)
 
--- the refusal of the change with this number, or else another
+-- the refusal of the change with this number, or else another one
 abbrev pub refused_or : ℕ → Option ℕ → Option (ℕ × ℕ) → Option (ℕ × ℕ)
 refused_or at (Some n) other = Some (at, n)
 refused_or at None other = other
@@ -38,18 +38,18 @@ refused_or at None other = other
 -- the first change that is refused on the files after those before it, counted from this number on, and its refusal
 abbrev pub first_refused : ℕ → List Change → Files → Option (ℕ × ℕ)
 first_refused at [] files = None
-first_refused at (c ∷ cs) files = refused_or at (change_refusal c files) (first_refused (suc at) cs (changed c files))
+first_refused at (c ∷ cs) files = refused_or at (change_refusal c files) (first_refused (suc at) cs (files_after_change c files))
 
--- counted from 0
+-- the first change that is refused, counted from 0, and its refusal
 abbrev pub changes_refusal : List Change → Files → Option (ℕ × ℕ)
 changes_refusal cs files = first_refused 0 cs files
 
--- the error of a refusal at a change; without one it is want of memory
+-- the error of a refusal at a change; without a refusal it is a failed allocation
 abbrev pub error_at : ℕ → Option ℕ → BatchError
 error_at at (Some n) = At at n
 error_at at None = (Memory memory)
 
--- all changes are made; or the first that is refused is told and nothing changes, as where memory is refused
+-- all changes are made; or the first that is refused is returned and nothing changes, as if an allocation fails
 abbrev pub EditsAll : {A : Type 0} → Result A BatchError → Option (ℕ × ℕ) → Files → Files → Files → Type 0
 EditsAll (Ok _) refusal before change after = (refusal ≡ None) × (after ≡ change)
 EditsAll (Err (At i n)) refusal before change after = (refusal ≡ Some (i, n)) × (after ≡ before)

@@ -1,4 +1,4 @@
--- A folder lies deeper than those in it.
+-- A folder is deeper than those in it.
 use Rattle.std.specs.Prelude.{◌≤◌, ◌+◌, ℕ, List, [], ◌∷◌, String, map as each}
 use Rattle.std.specs.declared.alloc.Global.{Global}
 use Rattle.std.specs.declared.sync.Arc.{Arc}

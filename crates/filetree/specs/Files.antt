@@ -11,14 +11,14 @@ pub use Rattle.labels.specs.Paths.{is_path}
 abbrev pub Files : Type 0
 Files = map.FinMap (slice_cmp nat_cmp) (List ℕ)
 
--- the other path goes on from the path by a slash
+-- the other path is the path, a slash and more
 abbrev pub is_ancestor : List ℕ → List ℕ → Bool
 is_ancestor path other = starts_with nat_eq other path && (slice_index other (length path) == 47)
 
 abbrev pub is_file : Files → List ℕ → Bool
 is_file files path = map.contains_key files path
 
--- a file lies below it
+-- a file lies below the path
 abbrev pub is_directory : Files → List ℕ → Bool
 is_directory files path = list_any (λ file. is_ancestor path file) (map.keys files)
 

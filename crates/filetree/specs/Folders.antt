@@ -5,32 +5,32 @@ use Rattle.std.specs.declared.sync.Arc.{Arc}
 use Rattle.std.specs.Map.{lookup, set_value}
 use Rattle.std.specs.List.{list_all}
 use Rattle.filetree.specs.declared.name_map.NameMap.{NameMap}
-use Rattle.filetree.specs.NameMaps.{named, is_ascending}
+use Rattle.filetree.specs.NameMaps.{folder_entries, is_ascending}
 use denote.Param.Weighed.{most}
 
 -- paths with their texts
 abbrev pub Entries : Type 0
 Entries = List (List ℕ × List ℕ)
 
--- the files below a folder, and how deep folders lie in one another
+-- the files below a folder, and how deep folders are in one another
 pub record Below : Type 0 where
   pub entries : Entries
   pub depth : ℕ
 
--- the entries below a name: behind it and a slash
+-- the entries below a name: those whose path is the name, a slash and more
 abbrev pub behind : List ℕ → Entries → Entries
 behind name es = each (λ e. (name ++ 47 ∷ e.0, e.1)) es
 
--- the files of one folder, and those of the folders in it behind their names
+-- the files of one folder, and those of the folders in it after their names
 abbrev pub level : Entries → List (List ℕ × Below) → Entries
 level files folders = files ++ flat_map (λ e. behind e.0 e.1.entries) folders
 
--- a folder is deeper by one than those in it
+-- a folder's depth is one more than those of the folders in it
 abbrev pub depth_above : List ℕ × Below → ℕ
 depth_above e = e.1.depth + 1
 
 abbrev pub depth_of : NameMap Below → ℕ
-depth_of folders = most depth_above (named folders)
+depth_of folders = most depth_above (folder_entries folders)
 
 abbrev pub has_no_slash : List ℕ → Bool
 has_no_slash name = list_all (λ b. not (b == 47)) name
@@ -64,7 +64,7 @@ Changes name rest w old new = (r : List ℕ) → text_at new r ≡ (if bytes_eq 
 abbrev pub IsPut : List ℕ → List ℕ → Below → Below → Type 0
 IsPut rest text old new = (r : List ℕ) → text_at new.entries r ≡ (if bytes_eq rest r then Some text else text_at old.entries r)
 
--- one of the folders in a folder is another one now, to which it is so
+-- one of the folders in a folder is replaced by another one, with which it is related in this way
 pub record Rewrites (name : List ℕ) (so : Below → Below → Type 0) (old new : List (List ℕ × Below)) : Type 0 where
   pub before : Below
   pub after : Below

@@ -10,7 +10,7 @@ use Rattle.filetree.specs.Changes.{Change, changes_refusal, all_changed}
 abbrev pub HasPaths : Files → Type 0
 HasPaths files = list_all is_path (map.keys files) ≡ true
 
--- no files have paths alone, and an edit that is not refused keeps it so, as several do
+-- no files have paths alone, and an edit that is not refused keeps it so, and so do several
 abbrev pub EditsKeepPaths : Type 0
 EditsKeepPaths = HasPaths map.empty
     × ((files : Files) (path text : List ℕ) → HasPaths files → put_refusal files path text ≡ None → HasPaths (map.insert files path text))

@@ -12,7 +12,7 @@ pub record Names : Type 0 where
   pub files : List (List ℕ)
   pub directories : List (List ℕ)
 
--- a name as a key of a map that holds nothing else
+-- a name as a key of a map that has nothing else
 abbrev pub alone : List ℕ → List ℕ × ℕ
 alone name = (name, 0)
 
@@ -25,12 +25,12 @@ abbrev pub rest_below : List ℕ → List ℕ → Option (List ℕ)
 rest_below [] path = Some path
 rest_below (b ∷ directory) path = if is_ancestor (b ∷ directory) path then Some (drop (length (b ∷ directory) + 1) path) else None
 
--- what stands before the first slash
+-- what is before the first slash
 abbrev pub first_name : List ℕ → List ℕ
 first_name path = before_first (λ b. b == 47) path
 
--- The names in a directory, of all paths: a file in it goes on by a name, and a file further below by a
--- subdirectory's name, a slash and more. A directory exists where a file lies below it.
+-- The names in a directory, of all paths: a file in it has the directory's path and a name, and a file further below
+-- has a subdirectory's name, a slash and more after it. A directory exists if a file lies below it.
 abbrev pub names_in : List ℕ → List (List ℕ) → Option Names
 names_in directory paths =
     if list_any (λ path. is_some (rest_below directory path)) paths

@@ -11,9 +11,9 @@ use crate::tree::Tree;
 /// A change of one file.
 #[derive(Drop)]
 pub enum Change<'a> {
-    /// A text is put at a path. One that was there is replaced.
+    /// A text is put at a path. It replaces one that was there.
     Put(&'a str, &'a str),
-    /// The file at a path is taken away.
+    /// The file at a path is removed.
     Del(&'a str),
 }
 
@@ -46,7 +46,7 @@ impl Tree {
     /// Makes a change, as `put` and `del` do.
     pub fn change(&mut self, change: &Change<'_>) -> Result<(), TreeError>
         ensures { Edits result (specs.change_refusal (change_seen change.now) self.old) self.old
-            (specs.changed (change_seen change.now) self.old) self.new }
+            (specs.files_after_change (change_seen change.now) self.old) self.new }
     {
         match change {
             Change::Put(path, text) => self.put(path, text),
@@ -68,8 +68,8 @@ impl Tree {
     }
 
     /// Makes all of these changes in their order, or none. A change is refused as `put` and `del` refuse it on the
-    /// files after those before it. If a change is refused or an allocation fails, nothing changes. Folders are shared
-    /// with the tree as it was, so it costs what the changed paths reach.
+    /// files after the changes before it. If a change is refused or an allocation fails, nothing changes. Folders are
+    /// shared with the tree as it was, so the cost depends on the changed paths alone.
     pub fn apply_all(&mut self, edits: &[Change<'_>]) -> Result<(), BatchError>
         ensures { specs.EditsAll result (specs.changes_refusal (changes_seen edits.now) self.old)
             self.old (specs.all_changed (changes_seen edits.now) self.old) self.new }

@@ -1,10 +1,10 @@
 //! Why an edit is refused.
 
+use base_types::Memory;
 use std::alloc::{AllocError, AllocFailed};
-use texts::Memory;
 use thiserror::Error;
 
-/// Why an edit is refused. The numbers are those of the answers to a client.
+/// Why an edit is refused. The numbers are those of the replies to a client.
 #[derive(Debug, Drop, Error)]
 pub enum TreeError {
     /// The text is not a path.
@@ -13,13 +13,13 @@ pub enum TreeError {
     /// A proper ancestor of the path is a file, or the path is a directory.
     #[error("a file or a directory is in the way")]
     Code3,
-    /// No such file.
+    /// There is no such file.
     #[error("no such file")]
     Code4,
     /// The text is longer than 262,144 bytes.
     #[error("text too long")]
     Code7,
-    /// A growth was refused.
+    /// An allocation failed.
     #[error("out of memory")]
     Memory(Memory),
 }
@@ -27,10 +27,11 @@ pub enum TreeError {
 /// Why none of several changes was made.
 #[derive(Debug, Drop, Error)]
 pub enum BatchError {
-    /// The first change that is refused on the files after those before it, counted from 0, and the number of its refusal.
+    /// The first change that is refused on the files after those before it, counted from 0, and the number of its
+    /// refusal.
     #[error("change {0} refused: {1}")]
     At(usize, u64),
-    /// A growth was refused.
+    /// An allocation failed.
     #[error("out of memory")]
     Memory(Memory),
 }
@@ -38,7 +39,7 @@ pub enum BatchError {
 impl From<Memory> for BatchError {
     ghost use Rattle.std.specs.Prelude.{◌≡◌};
     ghost use Rattle.filetree.specs.declared.error.BatchError.TheVariants.{Memory};
-    ghost use Rattle.texts.specs.Refusals.{memory};
+    ghost use Rattle.base_types.specs.Refusals.{memory};
 
     ghost from_gives = { λ _ e. e ≡ Memory memory };
 
@@ -50,7 +51,7 @@ impl From<Memory> for BatchError {
 impl From<Memory> for TreeError {
     ghost use Rattle.std.specs.Prelude.{◌≡◌};
     ghost use Rattle.filetree.specs.declared.error.TreeError.TheVariants.{Memory};
-    ghost use Rattle.texts.specs.Refusals.{memory};
+    ghost use Rattle.base_types.specs.Refusals.{memory};
 
     ghost from_gives = { λ _ e. e ≡ Memory memory };
 
@@ -62,7 +63,7 @@ impl From<Memory> for TreeError {
 impl From<AllocError> for TreeError {
     ghost use Rattle.std.specs.Prelude.{◌≡◌};
     ghost use Rattle.filetree.specs.declared.error.TreeError.TheVariants.{Memory};
-    ghost use Rattle.texts.specs.Refusals.{memory};
+    ghost use Rattle.base_types.specs.Refusals.{memory};
 
     ghost from_gives = { λ _ e. e ≡ Memory memory };
 
@@ -74,7 +75,7 @@ impl From<AllocError> for TreeError {
 impl<T: Drop> From<AllocFailed<T>> for TreeError {
     ghost use Rattle.std.specs.Prelude.{◌≡◌};
     ghost use Rattle.filetree.specs.declared.error.TreeError.TheVariants.{Memory};
-    ghost use Rattle.texts.specs.Refusals.{memory};
+    ghost use Rattle.base_types.specs.Refusals.{memory};
 
     ghost from_gives = { λ _ e. e ≡ Memory memory };
 

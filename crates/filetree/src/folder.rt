@@ -10,13 +10,13 @@ ghost use Rattle.filetree.specs.ListingView.{names_seen};
 
 use crate::listing::Listing;
 use crate::name_map::{NameMap, find_name};
+use base_types::{Memory, Text};
 use std::alloc::Global;
 use std::marker::Model;
 use std::sync::Arc;
-use texts::{Memory, Text};
 
-/// The files of a folder and the folders in it, by their names. A contract sees the files below it, with
-/// the paths that lead to them from here.
+/// The files of a folder and the folders in it, by their names. A contract sees the files below it, with the paths that
+/// lead to them from here.
 #[derive(Drop)]
 pub(crate) struct Folder {
     files: NameMap<Text>,
@@ -30,9 +30,9 @@ impl Model for Folder {
 
     ghost Value = { levels.Below };
 
-    ghost view = { λ f. record { entries = levels.level (names.named f.files) (names.named f.folders); depth = levels.depth_of f.folders } };
+    ghost view = { λ f. record { entries = levels.level (names.folder_entries f.files) (names.folder_entries f.folders); depth = levels.depth_of f.folders } };
 
-    ghost invariant = { λ f. IsTrue (levels.is_sound (names.named f.files) (names.named f.folders)) };
+    ghost invariant = { λ f. IsTrue (levels.is_sound (names.folder_entries f.files) (names.folder_entries f.folders)) };
 
     ghost size = { λ v. v.depth };
 
@@ -146,7 +146,7 @@ impl Folder {
         Ok(Folder { files, folders })
     }
 
-    fn unless_empty(self) -> Option<Folder>
+    fn without_empty(self) -> Option<Folder>
         ensures same { (path : List ℕ) → option_and_then (λ f. levels.text_at f.entries path) result
             ≡ levels.text_at self.entries path }
         ensures some { IfSome result (λ f. 0 < length f.entries) }
@@ -191,16 +191,16 @@ impl Folder {
         ensures some { IfOk result (λ left. IfSome left (λ f. 0 < length f.entries)) }
     {
         let Some((name, rest)) = split_name(path) else {
-            return Ok(self.without_file(alloc, path)?.unless_empty());
+            return Ok(self.without_file(alloc, path)?.without_empty());
         };
         let Some(folder) = self.folder(name) else {
-            return Ok(self.copy(alloc)?.unless_empty());
+            return Ok(self.copy(alloc)?.without_empty());
         };
         let left = match folder.del(alloc, rest)? {
             Some(inner) => self.with_folder(alloc, name, inner)?,
             None => self.without_folder(alloc, name)?,
         };
-        Ok(left.unless_empty())
+        Ok(left.without_empty())
     }
 
     /// Returns the text at a path.
@@ -283,7 +283,7 @@ impl Folder {
         })
     }
 
-    /// Returns the names in a directory, if it is there; the root's name is empty.
+    /// Returns the names in a directory, if the directory exists; the root's name is empty.
     pub(crate) fn listing(&self, alloc: Global, directory: &str) -> Result<Option<Listing>, Memory>
         ensures { IfOk result (λ l. option_map names_seen l ≡ names_in directory.now
             (each (λ e. e.0) self.now.entries)) }
@@ -302,7 +302,7 @@ impl Folder {
 
     // Puts a text at a path in place.
     #[cycle(put_shared)]
-    fn put_here(&mut self, alloc: Global, path: &str, text: &Arc<Text>) -> Result<(), Memory>
+    fn put_file(&mut self, alloc: Global, path: &str, text: &Arc<Text>) -> Result<(), Memory>
         ensures ok { OnOk result ((other : List ℕ) → levels.text_at self.new.entries other
             ≡ (if bytes_eq path.now other then Some text.now.value
             else levels.text_at self.old.entries other)) }
@@ -311,7 +311,7 @@ impl Folder {
         let Some((name, rest)) = split_name(path) else {
             return self.files.put(alloc, path, Arc::try_clone(text)?);
         };
-        let is_there = put_below(&mut self.folders, alloc, name, rest, text)?;
+        let is_there = put_in_folder(&mut self.folders, alloc, name, rest, text)?;
         if is_there {
             return Ok(());
         }
@@ -322,20 +322,21 @@ impl Folder {
 
 // Puts a text at a path into the folder at a name, if there is one, and returns whether there is.
 #[cycle(put_shared)]
-fn put_below(
+fn put_in_folder(
     folders: &mut NameMap<Folder>,
     alloc: Global,
     name: &str,
     rest: &str,
     text: &Arc<Text>,
 ) -> Result<bool, Memory>
-    requires { names.is_ascending (names.named folders.old) ≡ true }
+    requires { names.is_ascending (names.folder_entries folders.old) ≡ true }
     ensures ok { IfOk result (λ there. MatchBool there (levels.Rewrites name.now
-        (levels.IsPut rest.now text.now.value) (names.named folders.old)
-        (names.named folders.new)) ((names.named folders.new ≡ names.named folders.old)
-        × (lookup (bytes_eq name.now) (names.named folders.old) ≡ None))) }
+        (levels.IsPut rest.now text.now.value) (names.folder_entries folders.old)
+        (names.folder_entries folders.new)) ((names.folder_entries folders.new ≡
+        names.folder_entries folders.old) × (lookup (bytes_eq name.now) (names.folder_entries
+        folders.old) ≡ None))) }
     ensures err { OnErr result (levels.Rewrites name.now (λ before after. after.entries
-        ≡ before.entries) (names.named folders.old) (names.named folders.new)) }
+        ≡ before.entries) (names.folder_entries folders.old) (names.folder_entries folders.new)) }
 {
     match folders {
         NameMap::Few(list) => match find_name(list, name) {
@@ -355,7 +356,7 @@ fn put_below(
     }
 }
 
-/// Puts a text at a path: in place where the folders on the way are not shared, and else in copies of them.
+/// Puts a text at a path. The folders on the way are changed in place where they are not shared, and copied elsewhere.
 #[cycle(put_shared)]
 pub(crate) fn put_shared(
     shared: &mut Arc<Folder>,
@@ -369,7 +370,7 @@ pub(crate) fn put_shared(
     ensures err { OnErr result (shared.new.value.entries ≡ shared.old.value.entries) }
 {
     if let Some(folder) = Arc::get_mut(shared) {
-        return folder.put_here(alloc, path, text);
+        return folder.put_file(alloc, path, text);
     }
     let new = shared.put(alloc, path, text)?;
     *shared = Arc::new(alloc, new)?;

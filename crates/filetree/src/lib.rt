@@ -1,4 +1,4 @@
-//! Files by their paths. Layer: files, on base. Begin at `tree.rt` and `specs/Files.antt`.
+//! Files by their paths. Begin at `tree.rt` and `specs/Files.antt`.
 #![tactic(auto)]
 
 ghost use Rattle.filetree.specs.Lawful.{EditsKeepPaths};
@@ -24,8 +24,8 @@ pub fn edits_keep_paths()
 {}
 
 /// States the law of trees. Whatever edits are made, from no files on: each file has a path for its name, no file lies
-/// below another one, and each text has at most 262,144 bytes. It holds where there are no files, and after each list of
-/// changes that is not refused.
+/// below another one, and each text has at most 262,144 bytes. It holds where there are no files, and after each list
+/// of changes that is not refused.
 pub fn edits_make_trees()
     ensures { EditsMakeTrees }
 {}

@@ -1,5 +1,5 @@
 //! The names in a directory.
-use texts::Text;
+use base_types::Text;
 
 /// The names in a directory: of the files in it, and of its subdirectories, each in byte order.
 #[derive(Drop)]

@@ -7,26 +7,26 @@ ghost use Rattle.std.specs.Ordering.{nat_cmp};
 ghost use Rattle.std.specs.Cmp.Lexicographic.{slice_cmp};
 ghost use Rattle.filetree.specs.NameMaps as names;
 
+use base_types::{Memory, Text};
 use std::alloc::Global;
 use std::collections::BTreeMap;
 use std::sync::Arc;
-use texts::{Memory, Text};
 
-// So many entries a list has room for without spare places.
+// The most entries for which a list has no spare places.
 const MOST_EXACT: usize = 16;
 
-// So many entries stand in one list at most, since an insertion moves those after it.
+// The most entries in one list, since an insertion moves those after it.
 const MOST_LISTED: usize = 256;
 
 /// Shared values by names, in byte order: a few in one list, more in an ordered map. A map stays one when it shrinks.
-/// What the calls below require of the names' order holds where nothing was changed but by them.
+/// What the calls below require of the names' order holds as long as they alone change it.
 #[derive(Drop)]
 pub(crate) enum NameMap<V> {
     Few(Vec<(Text, Arc<V>)>),
     Many(BTreeMap<String, Arc<V>>),
 }
 
-/// Returns where a name stands in a list, or where it would.
+/// Returns where a name is in a list, or where it would be.
 pub(crate) fn find_name<V>(list: &[(Text, Arc<V>)], name: &str) -> Result<usize, usize>
     requires { names.is_ascending (names.listed list.now) ≡ true }
     ensures { names.IsPlace name.now list.now result }
@@ -34,7 +34,7 @@ pub(crate) fn find_name<V>(list: &[(Text, Arc<V>)], name: &str) -> Result<usize,
     list.binary_search_by(|entry| entry.0.as_str().cmp(name))
 }
 
-// Makes room for one more entry: for no other where the list is short.
+// Makes room for one more entry, and for no other where the list is short.
 fn make_room<V>(list: &mut Vec<(Text, Arc<V>)>) -> Result<(), Memory>
     ensures { list.new.items ≡ list.old.items }
 {
@@ -132,13 +132,13 @@ fn copy_map<V: Drop>(map: &BTreeMap<String, Arc<V>>) -> Result<BTreeMap<String, 
 impl<V: Drop> NameMap<V> {
     /// Makes a map without names.
     pub(crate) fn new(alloc: Global) -> NameMap<V>
-        ensures { names.named result ≡ [] }
+        ensures { names.folder_entries result ≡ [] }
     {
         NameMap::Few(Vec::new(alloc))
     }
 
     pub(crate) fn is_empty(&self) -> bool
-        ensures { result ≡ (length (names.named self.now) == 0) }
+        ensures { result ≡ (length (names.folder_entries self.now) == 0) }
     {
         match self {
             NameMap::Few(list) => list.is_empty(),
@@ -148,8 +148,9 @@ impl<V: Drop> NameMap<V> {
 
     /// Returns the value at a name.
     pub(crate) fn get(&self, name: &str) -> Option<&V>
-        requires { names.is_ascending (names.named self.now) ≡ true }
-        ensures { option_copied result ≡ lookup (bytes_eq name.now) (names.named self.now) }
+        requires { names.is_ascending (names.folder_entries self.now) ≡ true }
+        ensures { option_copied result ≡ lookup (bytes_eq name.now) (names.folder_entries
+            self.now) }
     {
         match self {
             NameMap::Few(list) => match find_name(list, name) {
@@ -165,7 +166,7 @@ impl<V: Drop> NameMap<V> {
 
     /// Returns a map of the same names with the same values, which are shared.
     pub(crate) fn copy(&self, alloc: Global) -> Result<NameMap<V>, Memory>
-        ensures { IfOk result (λ copy. names.named copy ≡ names.named self.now) }
+        ensures { IfOk result (λ copy. names.folder_entries copy ≡ names.folder_entries self.now) }
     {
         match self {
             NameMap::Few(list) => Ok(NameMap::Few(copy_list(alloc, list)?)),
@@ -175,7 +176,8 @@ impl<V: Drop> NameMap<V> {
 
     /// Returns the names.
     pub(crate) fn names(&self, alloc: Global) -> Result<Vec<Text>, Memory>
-        ensures { IfOk result (λ found. found.items ≡ each (λ e. e.0) (names.named self.now)) }
+        ensures { IfOk result (λ found. found.items ≡ each (λ e. e.0) (names.folder_entries
+            self.now)) }
     {
         match self {
             NameMap::Few(list) => list_names(alloc, list),
@@ -185,8 +187,9 @@ impl<V: Drop> NameMap<V> {
 
     // Returns an ordered map of the same entries, with shared values, if the list is full.
     fn wider(&self, alloc: Global) -> Result<Option<BTreeMap<String, Arc<V>>>, Memory>
-        requires { names.is_ascending (names.named self.now) ≡ true }
-        ensures { IfOk result (λ m. IfSome m (λ map. names.mapped map ≡ names.named self.now)) }
+        requires { names.is_ascending (names.folder_entries self.now) ≡ true }
+        ensures { IfOk result (λ m. IfSome m (λ map. names.mapped map ≡ names.folder_entries
+            self.now)) }
     {
         match self {
             NameMap::Few(list) => {
@@ -199,10 +202,10 @@ impl<V: Drop> NameMap<V> {
         }
     }
 
-    // Goes over to an ordered map where the list is full.
+    // Changes a full list to an ordered map.
     fn widen(&mut self, alloc: Global) -> Result<(), Memory>
-        requires { names.is_ascending (names.named self.old) ≡ true }
-        ensures { names.named self.new ≡ names.named self.old }
+        requires { names.is_ascending (names.folder_entries self.old) ≡ true }
+        ensures { names.folder_entries self.new ≡ names.folder_entries self.old }
     {
         if let Some(map) = self.wider(alloc)? {
             *self = NameMap::Many(map);
@@ -210,12 +213,12 @@ impl<V: Drop> NameMap<V> {
         Ok(())
     }
 
-    /// Puts a value at a name. One that was there is replaced.
+    /// Puts a value at a name. It replaces one that was there.
     pub(crate) fn put(&mut self, alloc: Global, name: &str, value: Arc<V>) -> Result<(), Memory>
-        requires { names.is_ascending (names.named self.old) ≡ true }
-        ensures ok { OnOk result (names.named self.new ≡ insert_entry (slice_cmp nat_cmp)
-            (names.named self.old) name.now value.value) }
-        ensures err { OnErr result (names.named self.new ≡ names.named self.old) }
+        requires { names.is_ascending (names.folder_entries self.old) ≡ true }
+        ensures ok { OnOk result (names.folder_entries self.new ≡ insert_entry (slice_cmp nat_cmp)
+            (names.folder_entries self.old) name.now value.value) }
+        ensures err { OnErr result (names.folder_entries self.new ≡ names.folder_entries self.old) }
     {
         self.widen(alloc)?;
         match self {
@@ -227,11 +230,11 @@ impl<V: Drop> NameMap<V> {
         }
     }
 
-    /// Takes the value at a name away, if it is there.
+    /// Removes the value at a name, if it is there.
     pub(crate) fn remove(&mut self, name: &str)
-        requires { names.is_ascending (names.named self.old) ≡ true }
-        ensures { names.named self.new ≡ remove_entry (bytes_eq name.now)
-            (names.named self.old) }
+        requires { names.is_ascending (names.folder_entries self.old) ≡ true }
+        ensures { names.folder_entries self.new ≡ remove_entry (bytes_eq name.now)
+            (names.folder_entries self.old) }
     {
         match self {
             NameMap::Few(list) => {

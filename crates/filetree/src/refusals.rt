@@ -1,6 +1,6 @@
 //! The numbers of the refusals of lines, with their names.
 
-/// The line is no command.
+/// The line is not a command.
 pub const NO_COMMAND: u64 = 1;
 /// The text is not a path.
 pub const BAD_PATH: u64 = 2;
@@ -8,7 +8,7 @@ pub const BAD_PATH: u64 = 2;
 pub const IN_THE_WAY: u64 = 3;
 /// There is no such file.
 pub const NO_FILE: u64 = 4;
-/// The text is no package name, or no label of a module.
+/// The text is not a package name, or not a label of a module.
 pub const BAD_NAME: u64 = 5;
 /// The line is too long.
 pub const LINE_TOO_LONG: u64 = 6;

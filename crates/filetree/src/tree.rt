@@ -11,17 +11,17 @@ ghost use Rattle.filetree.specs.ListingView.{names_seen};
 use crate::error::TreeError;
 use crate::folder::{Folder, put_shared};
 use crate::listing::Listing;
+use base_types::{Memory, Text};
 use labels::is_path;
 use std::alloc::Global;
 use std::marker::Model;
 use std::sync::Arc;
-use texts::{Memory, Text};
 
 const TEXT_LIMIT: usize = 262_144;
 
-/// The files: texts by their paths. A contract sees a finite map from the bytes of paths to the bytes
-/// of texts. A directory exists exactly when a file lies below it. Copies share their folders: a put changes
-/// the folders on its path in place where no copy has them, else it makes these anew and shares all else.
+/// The files: texts by their paths. A contract sees a finite map from the bytes of paths to the bytes of texts. A
+/// directory exists exactly when a file lies below it. Copies share their folders: a put changes the folders on its
+/// path in place where no copy has them, and else makes new ones and shares all others.
 #[derive(Drop)]
 pub struct Tree {
     alloc: Global,
@@ -42,7 +42,7 @@ impl Model for Tree {
 }
 
 // Puts a text at a path below the first folder.
-fn put_below(
+fn put_in_root(
     root: &mut Option<Arc<Folder>>,
     alloc: Global,
     path: &str,
@@ -82,7 +82,7 @@ fn root_without(
 }
 
 impl Tree {
-    /// Makes a tree without files. It grows by the allocator it is made with.
+    /// Makes a tree without files. It grows by the allocator that it is made with.
     pub fn new(alloc: Global) -> Tree
         ensures { result ≡ map.empty }
     {
@@ -125,7 +125,7 @@ impl Tree {
     }
 
     /// Returns the names in a directory, or `None` if there is no such directory. The root's name is empty, and the
-    /// root of an empty tree is not there. It costs what the directory's own names do.
+    /// root of an empty tree does not exist. The cost depends on the directory's own names.
     pub fn listing(&self, directory: &str) -> Result<Option<Listing>, Memory>
         ensures { IfOk result (λ l. option_map names_seen l ≡ listing self.now directory.now) }
     {
@@ -135,7 +135,7 @@ impl Tree {
         }
     }
 
-    /// Returns an equal tree, which shares all its folders with this one: one count, whatever the size.
+    /// Returns an equal tree, which shares all its folders with this one. It costs one count, whatever the size.
     pub fn copy(&self) -> Result<Tree, Memory>
         ensures { IfOk result (λ t. t ≡ self.now) }
     {
@@ -184,12 +184,12 @@ impl Tree {
             self.old (map.insert self.old path.now text.now) self.new }
     {
         self.test_put(path, text)?;
-        put_below(&mut self.root, self.alloc, path, text)?;
+        put_in_root(&mut self.root, self.alloc, path, text)?;
         Ok(())
     }
 
-    /// Removes a file, or returns the first refusal and changes nothing: 2 for a bad path, 4 for no such file. Returns
-    /// `Memory` only if there is no other refusal.
+    /// Removes a file, or returns the first refusal and changes nothing: 2 for a bad path, 4 if there is no such file.
+    /// Returns `Memory` only if there is no other refusal.
     pub fn del(&mut self, path: &str) -> Result<(), TreeError>
         ensures { Edits result (specs.del_refusal self.old path.now)
             self.old (map.remove self.old path.now) self.new }

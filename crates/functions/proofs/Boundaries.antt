@@ -89,7 +89,7 @@ one_longer : (x : List ℕ) (done : List Key) → AllByRecursion (λ j. length (
 one_longer x [] h = (omega arith, tt)
 one_longer x (j ∷ done) h = (h.0, one_longer x done h.1)
 
--- look-ups of such names are all asked
+-- look-ups of such names are all asked for
 all_once : (n : ℕ) (xs : List (List ℕ)) (done : List Key) → RiseFrom n xs → AllByRecursion (λ j. length (name_of j) < n) done → once_behind done (map look_up xs) ≡ map look_up xs
 all_once n [] done h below = refl
 all_once n (x ∷ xs) done h below =

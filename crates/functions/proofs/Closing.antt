@@ -1,16 +1,16 @@
 -- Pieces of an evaluation that, by enough right answers, wait for no glob.
 use Rattle.std.proofs.Common.{◌≡◌, ℕ, List, [], ◌∷◌, Bool, true, false, refl, sym, ap, subst, ◌∙◌}
 use Rattle.std.specs.Prelude.{if◌then◌else◌}
-use Rattle.grammar.specs.declared.kind.FileKind.{FileKind}
-use Rattle.grammar.specs.declared.kind.FileKind.TheVariants as k
-use Rattle.meaning.specs.declared.val.Val.{Val}
-use Rattle.meaning.specs.Functions.{the_items}
-use Rattle.language.specs.World.{World, Here, Ends, ended, failed, waits, Runs, then_runs, on_heap}
-use Rattle.language.specs.Environment.{Answers}
-use Rattle.language.specs.Laws.{KnowsMore}
-use Rattle.language.specs.Loops.{Collection, gather, over, locks, unlocks}
-use Rattle.language.specs.Packages.{if_build}
-use Rattle.language.proofs.Quiet.{DoesNotWait, Quiet, ends_quiet, fails_quiet, heap_quiet, then_quiet}
+use Rattle.syntax_grammar.specs.declared.kind.FileKind.{FileKind}
+use Rattle.syntax_grammar.specs.declared.kind.FileKind.TheVariants as k
+use Rattle.values_semantics.specs.declared.val.Val.{Val}
+use Rattle.values_semantics.specs.Functions.{the_items}
+use Rattle.evaluator_semantics.specs.World.{World, Here, Ends, ended, failed, waits, Runs, then_runs, on_heap}
+use Rattle.evaluator_semantics.specs.Environment.{Answers}
+use Rattle.evaluator_semantics.specs.Laws.{KnowsMore}
+use Rattle.evaluator_semantics.specs.Loops.{Collection, gather, over, locks, unlocks}
+use Rattle.evaluator_semantics.specs.Packages.{if_build}
+use Rattle.evaluator_semantics.proofs.Quiet.{DoesNotWait, Quiet, ends_quiet, fails_quiet, heap_quiet, then_quiet}
 use Rattle.functions.proofs.RightAnswers.{Right}
 
 module _ (found : List ℕ → List (List ℕ)) where

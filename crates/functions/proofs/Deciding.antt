@@ -3,15 +3,15 @@ use Rattle.std.proofs.Common.{◌≡◌, ◌≤◌, ◌-◌, ℕ, zero, suc, Lis
 use Rattle.std.specs.Prelude.{is_some}
 use Rattle.std.specs.List.{list_any}
 use Rattle.std.specs.FinMap as map_of
-use Rattle.evaluation.specs.Value.{In, first, after}
+use Rattle.engine_semantics.specs.Value.{In, first, after}
 use Rattle.labels.specs.Labels.{Target, label_file, boundaries}
 use Rattle.filetree.specs.Files.{Files}
 use Rattle.pattern.specs.Globs.{is_package}
-use Rattle.grammar.specs.declared.kind.FileKind.TheVariants as k
-use Rattle.module_values.specs.Values.{ModuleValue}
-use Rattle.language.specs.Files.{Outcome, a_module, a_package, a_need, a_fault, evaluate}
-use Rattle.language.specs.Laws.{IsFinished}
-use Rattle.language.proofs.MoreStatements.{modules_finish}
+use Rattle.syntax_grammar.specs.declared.kind.FileKind.TheVariants as k
+use Rattle.values_modules.specs.Values.{ModuleValue}
+use Rattle.evaluator_semantics.specs.Files.{Outcome, a_module, a_package, a_need, a_fault, evaluate}
+use Rattle.evaluator_semantics.specs.Laws.{IsFinished}
+use Rattle.evaluator_semantics.proofs.MoreStatements.{modules_finish}
 use Rattle.keys.specs.declared.value.Fault.{Fault}
 use Rattle.functions.specs.Sources.{fault_at}
 use Rattle.functions.specs.Loads.{Node, of_module, File, of_text, loads_in, file_of, loads, Path, stay, load, ReachesCycle, FirstCyclic, at_head, further}

@@ -1,17 +1,17 @@
--- An evaluation goes on by the answers to its globs.
+-- An evaluation continues by the answers to its globs.
 use Rattle.std.proofs.Common.{◌≡◌, ℕ, suc, zero, ◌+◌, ◌-◌, ◌<◌, ◌≤◌, List, [], ◌∷◌, ◌++◌, Bool, length, drop, cond, refl, sym, ◌∙◌, ap, arith, length-append, length-drop}
 use Rattle.std.specs.Prelude.{nat_lt, zip}
 use Rattle.std.proofs.lemmas.Bool.{le-ltb, lt-ltb}
 use Rattle.std.proofs.lemmas.List.{drop-append-le}
-use Rattle.evaluation.specs.Reply.{Reply, Ask}
-use Rattle.language.specs.Environment.{Env}
-use Rattle.language.specs.Laws.{with_answers}
-use Rattle.language.specs.Files.{Outcome, a_module, a_package, a_need, a_fault, evaluate}
-use Rattle.language.proofs.MoreStatements.{needs_asked}
-use Rattle.walks.specs.Globs.{glob_key}
+use Rattle.engine_semantics.specs.Reply.{Reply, Ask}
+use Rattle.evaluator_semantics.specs.Environment.{Env}
+use Rattle.evaluator_semantics.specs.Laws.{with_answers}
+use Rattle.evaluator_semantics.specs.Files.{Outcome, a_module, a_package, a_need, a_fault, evaluate}
+use Rattle.evaluator_semantics.proofs.MoreStatements.{needs_asked}
+use Rattle.functions_directories.specs.Globs.{glob_key}
 use Rattle.keys.specs.declared.key.Key.{Key}
 use Rattle.keys.specs.declared.value.Value.{Value}
-use Rattle.functions.specs.Goes.{led}
+use Rattle.functions.specs.Goes.{turn_after_answers}
 use Rattle.functions.specs.Once.{once_behind}
 use Rattle.functions.specs.Sources.{glob_keys, glob_group, with_paths, value_or_group, goes_on, rounds}
 use Rattle.functions.proofs.Further.{paths_more}
@@ -74,13 +74,13 @@ same_rounds (suc n) (suc m) env answers hn hm = like_rounds n m (same_rounds n m
 
 -- a group that is not answered is asked
 pub led_to_group : (env : Env) (patterns : List (List ℕ)) (answers : List Value) → evaluate env ≡ a_need patterns → length answers < length (glob_group env.package_name patterns)
-    → led env answers ≡ Ask (glob_group env.package_name patterns)
+    → turn_after_answers env answers ≡ Ask (glob_group env.package_name patterns)
 led_to_group env patterns [] e h = ap (value_or_group env) e
 led_to_group env patterns (x ∷ xs) e h = ap (λ o. goes_on (λ e a. rounds (length xs) e a) env o (x ∷ xs)) e ∙ too_few (λ e a. rounds (length xs) e a) env patterns (x ∷ xs) h
 
--- a group that is answered gives its paths, and those behind it lead on
+-- a group that is answered gives its paths, and those after it lead on
 pub led_further : (env : Env) (patterns : List (List ℕ)) (answers more : List Value) → evaluate env ≡ a_need patterns → length (glob_group env.package_name patterns) ≤ length answers
-    → led env (answers ++ more) ≡ led (with_paths env patterns answers) (drop (length (glob_group env.package_name patterns)) answers ++ more)
+    → turn_after_answers env (answers ++ more) ≡ turn_after_answers (with_paths env patterns answers) (drop (length (glob_group env.package_name patterns)) answers ++ more)
 led_further env patterns answers more e h =
     let group = glob_group env.package_name patterns in
     let some : 0 < length group = some_group env patterns e in

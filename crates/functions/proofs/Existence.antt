@@ -4,9 +4,9 @@ use Rattle.std.specs.FinMap as map_of
 use Rattle.labels.specs.Labels.{Target}
 use Rattle.filetree.specs.Files.{Files}
 use Rattle.pattern.specs.Globs.{is_package, answer_below}
-use Rattle.module_values.specs.Values.{ModuleValue}
-use Rattle.language.specs.Files.{Outcome, a_module, a_package, a_need, a_fault, evaluate}
-use Rattle.language.specs.Laws.{IsFinished}
+use Rattle.values_modules.specs.Values.{ModuleValue}
+use Rattle.evaluator_semantics.specs.Files.{Outcome, a_module, a_package, a_need, a_fault, evaluate}
+use Rattle.evaluator_semantics.specs.Laws.{IsFinished}
 use Rattle.keys.specs.declared.value.Fault.{Fault}
 use Rattle.keys.specs.declared.value.Value.{Value}
 use Rattle.keys.specs.declared.value.Value.TheVariants as value

@@ -1,27 +1,27 @@
 -- Statements, calls and files that, by enough right answers, wait for no glob.
 use Rattle.std.proofs.Common.{ℕ, zero, suc, List, [], ◌∷◌, Some, None}
-use Rattle.grammar.specs.declared.kind.FileKind.{FileKind}
-use Rattle.grammar.specs.declared.kind.FileKind.TheVariants as k
-use Rattle.tree.specs.declared.expr.BinaryOp.{BinaryOp}
-use Rattle.tree.specs.Tree as t
-use Rattle.tree.specs.Tree.{Ex, St, Suite, Branches, Br, Fn, Tp, Pa, Bound}
-use Rattle.meaning.specs.declared.val.Val.{Val}
-use Rattle.meaning.specs.Outcome.{checked}
-use Rattle.meaning.specs.Heap.{makes, function}
-use Rattle.meaning.specs.Operators.{is_true}
-use Rattle.meaning.specs.Functions.{KeywordArguments}
-use Rattle.module_values.specs.Values.{ModuleValue}
-use Rattle.language.specs.World.{then_runs, pure, World, Here, at_line, Ends, ended, failed, waits, Runs, on_heap, tick, or_fault, with_blocks}
-use Rattle.language.specs.Environment.{Env, Answers, need_names, function_named, functions_of, defaults_of}
-use Rattle.language.specs.Arguments.{arguments}
-use Rattle.language.specs.Names.{bind}
-use Rattle.language.specs.Targets.{store}
-use Rattle.language.specs.Expressions.{Call}
-use Rattle.language.specs.Statements.{Exit, goes_on, continues, unless_over, present, changed, after_turn, turns, assign, augment, turn, for_each, exec, suite, first_true, branch}
-use Rattle.language.specs.Calls.{function_block, inside, is_running, enter, call}
-use Rattle.language.specs.Files.{keep_defaults, frozen_module, open_calls, default_value, default_values, top, tops, leading, loads, statements, leaves, whole_file, a_module, outcome_of, all_steps, start, file_level, evaluate}
-use Rattle.language.specs.Laws.{with_answers, IsFinished}
-use Rattle.language.proofs.Quiet.{DoesNotWait, ends_quiet, quiet}
+use Rattle.syntax_grammar.specs.declared.kind.FileKind.{FileKind}
+use Rattle.syntax_grammar.specs.declared.kind.FileKind.TheVariants as k
+use Rattle.syntax_tree.specs.declared.expr.BinaryOp.{BinaryOp}
+use Rattle.syntax_tree.specs.Tree as t
+use Rattle.syntax_tree.specs.Tree.{Ex, St, Suite, Branches, Br, Fn, Tp, Pa, Bound}
+use Rattle.values_semantics.specs.declared.val.Val.{Val}
+use Rattle.values_semantics.specs.Outcome.{lift_fault}
+use Rattle.values_semantics.specs.Heap.{makes, function}
+use Rattle.values_semantics.specs.Operators.{is_true}
+use Rattle.values_semantics.specs.Functions.{KeywordArguments}
+use Rattle.values_modules.specs.Values.{ModuleValue}
+use Rattle.evaluator_semantics.specs.World.{then_runs, pure, World, Here, at_line, Ends, ended, failed, waits, Runs, on_heap, tick, or_fault, with_blocks}
+use Rattle.evaluator_semantics.specs.Environment.{Env, Answers, need_names, function_named, functions_of, defaults_of}
+use Rattle.evaluator_semantics.specs.Arguments.{arguments}
+use Rattle.evaluator_semantics.specs.Names.{bind}
+use Rattle.evaluator_semantics.specs.Targets.{store}
+use Rattle.evaluator_semantics.specs.Expressions.{Call}
+use Rattle.evaluator_semantics.specs.Statements.{Exit, goes_on, continues, unless_over, present, augmented_value, after_turn, turns, assign, augment, turn, for_each, exec, suite, first_true, branch}
+use Rattle.evaluator_semantics.specs.Calls.{function_block, inside, is_running, enter, call}
+use Rattle.evaluator_semantics.specs.Files.{keep_defaults, frozen_module, open_calls, default_value, default_values, top, tops, leading, loads, statements, leaves, whole_file, a_module, outcome_of, all_steps, start, file_level, evaluate}
+use Rattle.evaluator_semantics.specs.Laws.{with_answers, IsFinished}
+use Rattle.evaluator_semantics.proofs.Quiet.{DoesNotWait, ends_quiet, quiet}
 use Rattle.functions.proofs.RightAnswers.{Right, none_right}
 use Rattle.functions.proofs.Closing.{Closing, Closes, same, both, after, choose, going_over}
 use Rattle.functions.proofs.ValueAnswers.{value_closes, bound_closes, aim_closes}
@@ -52,7 +52,7 @@ module _ (found : List ℕ → List (List ℕ)) where
       augment_closes : (target : Ex) (op : BinaryOp) (e : Ex) (here : Here) (w : World) → Closes found (λ a. augment (at a) (call a) target op e here w)
       augment_closes target op e here w =
           both found (aim_closes found env call calls target here w) λ i u. after found (present i here u) (search quiet) λ x z. both found (value_closes found env call calls e here z) λ y s.
-          after found (changed op x y here s) (search quiet) λ q r. after found (store i q here r) (search quiet) λ _ _. same found _ (search quiet)
+          after found (augmented_value op x y here s) (search quiet) λ q r. after found (store i q here r) (search quiet) λ _ _. same found _ (search quiet)
 
       for_each_closes : (target e : Ex) (m : Answers → Runs Exit) → Closing found m → (here : Here) (w : World) → Closes found (λ a. for_each (at a) (call a) target e (m a) here w)
       for_each_closes target e m p here w =
@@ -92,7 +92,7 @@ module _ (found : List ℕ → List (List ℕ)) where
     enter_none label name xs ns here w =
         after found (need_names env label here w) (search quiet) λ _ u.
         after found (or_fault 5 (function_named name (functions_of env label)) here u) (search quiet) λ f z.
-        after found (on_heap here (checked (arguments f xs ns (defaults_of label name z))) z) (search quiet) λ block s.
+        after found (on_heap here (lift_fault (arguments f xs ns (defaults_of label name z))) z) (search quiet) λ block s.
         choose found (is_running label name here.running) _ _ s (same found _ (search quiet)) (same found _ (search quiet))
 
     enter_some : (run : Answers → Suite → Here → Runs Exit) → ((ss : Suite) (here : Here) (w : World) → Closes found (λ a. run a ss here w)) → (label name : List ℕ) (xs : List Val) (ns : KeywordArguments) (here : Here) (w : World)
@@ -101,7 +101,7 @@ module _ (found : List ℕ → List (List ℕ)) where
     enter_some run h label name xs ns here w =
         after found (need_names env label here w) (search quiet) λ _ u.
         after found (or_fault 5 (function_named name (functions_of env label)) here u) (search quiet) λ f z.
-        after found (on_heap here (checked (arguments f xs ns (defaults_of label name z))) z) (search quiet) λ block s.
+        after found (on_heap here (lift_fault (arguments f xs ns (defaults_of label name z))) z) (search quiet) λ block s.
         choose found (is_running label name here.running) _ _ s (same found _ (search quiet))
         (both found (both found (h f.body (inside env label f here) (with_blocks (function_block f block ∷ []) s)) λ _ _. same found _ (search quiet)) λ _ _. same found _ (search quiet))
 

@@ -1,4 +1,4 @@
--- What a file, a module and a package come to behind the answers that they have taken.
+-- What a file, a module and a package come to after the answers that they have taken.
 use Rattle.std.proofs.Common.{◌≡◌, ℕ, ◌-◌, ◌≤◌, List, ◌∷◌, ◌++◌, length, take, drop, cond, None, Ok, Result, IfOk, ◌∙◌, ap, sym, subst, arith, length-append}
 use Rattle.std.specs.Arc.{arc_value}
 use Rattle.std.specs.declared.sync.Arc.{Arc}
@@ -6,28 +6,28 @@ use Rattle.std.specs.declared.alloc.Global.{Global}
 use Rattle.std.proofs.lemmas.Bool.{le-ltb}
 use Rattle.std.proofs.lemmas.List.{drop-append-le, length-map, take-append-le, take-map}
 use Rattle.labels.specs.Labels.{Target}
-use Rattle.tree.specs.Tree.{Fi}
-use Rattle.module_values.specs.Values.{ModuleValue}
-use Rattle.evaluation.specs.Reply.{Reply, Ask, Done}
+use Rattle.syntax_tree.specs.Tree.{Fi}
+use Rattle.values_modules.specs.Values.{ModuleValue}
+use Rattle.engine_semantics.specs.Reply.{Reply, Ask, Done}
 use Rattle.keys.specs.Turns.{values}
 use Rattle.keys.specs.declared.key.Key.{Key}
 use Rattle.keys.specs.declared.value.Value.{Value}
 use Rattle.keys.specs.declared.value.Value.TheVariants as value
-use Rattle.functions.specs.declared.file_node.Source.{Source}
+use Rattle.functions.specs.declared.source.Source.{Source}
 use Rattle.functions.specs.Goes.{Follows}
 use Rattle.functions.specs.Modules.{lookups, after_lookups, by_lookups}
 use Rattle.functions.specs.Once.{once}
 use Rattle.functions.specs.Packages as packages
 use Rattle.functions.specs.Sources.{fault_at, all_modules, after_modules, after_loads}
-use Rattle.functions.specs.declared.reply.Reply as made
-use Rattle.functions.specs.declared.reply.Reply.TheVariants as reply
+use Rattle.functions.specs.declared.reply.FileTurn as made
+use Rattle.functions.specs.declared.reply.FileTurn.TheVariants as reply
 use Rattle.functions.proofs.Further.{modules_more}
 use Rattle.functions.proofs.SourceSteps.{rest_values}
 
 abbrev asking : List Key → Reply Key Value
 asking group = Ask group
 
--- behind the modules of the loads comes the evaluation
+-- after the modules of the loads comes the evaluation
 loads_on : (source : Source) (file : Fi) (keys : List Key) (loads : List ModuleValue) (answers more : List Value) → length (once keys) ≤ length answers → all_modules source.path (once keys) keys answers ≡ Ok loads
     → after_loads source file (Ok keys) (answers ++ more) ≡ after_modules source file (Ok loads) (drop (length (once keys)) answers ++ more)
 loads_on source file keys loads answers more h found =
@@ -53,7 +53,7 @@ no_package name answers rest look e found = ap (λ l. packages.next name (values
 
 -- ---- modules
 
--- behind the look-ups of a module comes its file
+-- after the look-ups of a module comes its file
 taken_on : (t : Target) (answers more : List Value) → length (lookups t) ≤ length answers
     → by_lookups t (answers ++ more) ≡ after_lookups t (take (length (lookups t)) answers) (drop (length (lookups t)) answers ++ more)
 taken_on t answers more h =

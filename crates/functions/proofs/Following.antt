@@ -3,9 +3,9 @@ use Rattle.std.proofs.Common.{◌≡◌, ◌≢◌, ◌≤◌, ◌-◌, ℕ, zer
 use Rattle.std.specs.FinMap as map_of
 use Rattle.std.specs.List.{AllByRecursion}
 use lib.Pointwise.{bytes_decides}
-use Rattle.meaning.specs.Comparing.{same_text}
-use Rattle.evaluation.specs.Value.{In, first, after, AllDiffer}
-use Rattle.evaluation.specs.Rotation.{rotated}
+use Rattle.values_semantics.specs.Comparing.{same_text}
+use Rattle.engine_semantics.specs.Value.{In, first, after, AllDiffer}
+use Rattle.engine_semantics.specs.Rotation.{rotated}
 use Rattle.labels.specs.Labels.{Target, label_text}
 use Rattle.filetree.specs.Files.{Files}
 use Rattle.keys.specs.declared.value.Fault.{Fault}
@@ -106,7 +106,7 @@ module _ (files : Files) where
     abbrev Shown : Type 0
     Shown = (labels : List (List ℕ)) × ShowsCycle files n labels
 
-    -- a module that comes again closes a loop
+    -- a module that comes again closes a cycle
     closed : {passed : List Target} {t : Target} → Follows files n passed t → In t passed → AllDiffer passed → Shown
     closed {t = t} follows i differ =
         let c = cut follows i differ in (rotated (map label_text (t ∷ c.rest)), record { first = t; before = c.before; rest = c.rest; comes = c.comes; returns = c.goes; differ = c.differ; shown = refl })

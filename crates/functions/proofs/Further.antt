@@ -1,12 +1,12 @@
 -- Further answers change nothing that was made of those before them.
 use Rattle.std.proofs.Common.{◌≡◌, ◌≤◌, ◌∙◌, ap, sym, refl, arith, List, [], ◌∷◌, ◌++◌, length, map, ℕ, cond, Some, Result, IfOk}
-use Rattle.texts.specs.declared.memory.Memory.{Memory}
+use Rattle.base_types.specs.declared.memory.Memory.{Memory}
 use Rattle.std.proofs.lemmas.List.{append-nil}
 use Rattle.keys.specs.Keys.{key_eq}
 use Rattle.keys.specs.declared.key.Key.{Key}
 use Rattle.keys.specs.declared.value.Value.{Value}
-use Rattle.functions.specs.declared.reply.Reply as made
-use Rattle.functions.specs.declared.reply.Reply.TheVariants as reply
+use Rattle.functions.specs.declared.reply.FileTurn as made
+use Rattle.functions.specs.declared.reply.FileTurn.TheVariants as reply
 use Rattle.functions.specs.Goes.{Table, Follows, IsMade}
 use Rattle.functions.specs.Once.{answer_at}
 use Rattle.functions.specs.Sources.{each_or_fault, module_in, all_modules, paths_or_none, paths_by}
@@ -31,11 +31,11 @@ module _ (next : Table) (answers : List Value) (later : Table) (rest : List Valu
   here : next answers ≡ later rest
   here = ap next (sym (append-nil answers)) ∙ goes [] ∙ ap later (append-nil rest)
 
-  -- what another table makes of other answers is made of these, if that table goes on behind them
-  pub carried : (r : made.Reply) → IsMade later rest r → IsMade next answers r
+  -- what another table makes of other answers is made of these, if that table continues after them
+  pub carried : (r : made.FileTurn) → IsMade later rest r → IsMade next answers r
   carried (reply.Ask group) h = here ∙ h
   carried (reply.Done v) h = here ∙ h
   carried (reply.Wait group held) h = (here ∙ h.0, record { may = h.1.may; goes = λ more. goes more ∙ h.1.goes more })
 
-  pub carried_on : (result : Result made.Reply Memory) → IfOk result (IsMade later rest) → IfOk result (IsMade next answers)
+  pub carried_on : (result : Result made.FileTurn Memory) → IfOk result (IsMade later rest) → IfOk result (IsMade next answers)
   carried_on result = weaken (IsMade later rest) (IsMade next answers) result carried

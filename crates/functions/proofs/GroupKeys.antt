@@ -94,7 +94,7 @@ answered {A = A} k h (runs.one {k = j} {v = answer} {keys = group} {values = val
         let rest = later (ap (λ t. t || has_key k group) (sym e) ∙ h) in
         record { answer = rest.answer; found = ap (λ t. cond t (Some answer) (answer_at k group values)) e ∙ rest.found; holds = rest.holds }
 
--- further answers behind those of a group change none of them
+-- further answers after those of a group change none of them
 pub same_answer : (k : Key) (group : List Key) (values rest : List Value) → length values ≡ length group → answer_at k group (values ++ rest) ≡ answer_at k group values
 same_answer k [] [] rest e = refl
 same_answer k [] (v ∷ values) rest e = absurd (omega (arith, e))

@@ -5,22 +5,22 @@ use Rattle.std.specs.FinMap as map_of
 use Rattle.std.specs.List.{AllByRecursion, list_any}
 use Rattle.std.proofs.lemmas.Bool.{false≢true, or_cases, lt-ltb}
 use Rattle.std.proofs.lemmas.List.{append_assoc, append-nil}
-use Rattle.evaluation.specs.Reply.{Reply, Ask, Done}
-use Rattle.evaluation.specs.Value as value_of
-use Rattle.evaluation.specs.Value.{Grounded, is_leaf, AllGrounded, IsUngrounded, First, Stops}
-use Rattle.evaluation.proofs.Unique.{same_value}
+use Rattle.engine_semantics.specs.Reply.{Reply, Ask, Done}
+use Rattle.engine_semantics.specs.Value as value_of
+use Rattle.engine_semantics.specs.Value.{Grounded, is_leaf, AllGrounded, IsUngrounded, First, Stops}
+use Rattle.engine_semantics.proofs.Unique.{same_value}
 use Rattle.labels.specs.Paths.{is_package_name}
 use Rattle.labels.specs.Labels.{Target, label_text, label_file, boundaries}
 use Rattle.labels.proofs.Segments.{reads_back}
-use Rattle.tree.specs.Tree.{Fi}
-use Rattle.tokens.specs.Reading as tokens
-use Rattle.grammar.specs.Files.{parse_of}
-use Rattle.module_values.specs.Values.{ModuleValue}
+use Rattle.syntax_tree.specs.Tree.{Fi}
+use Rattle.syntax_tokens.specs.Reading as tokens
+use Rattle.syntax_grammar.specs.Files.{parse_of}
+use Rattle.values_modules.specs.Values.{ModuleValue}
 use Rattle.filetree.specs.Files.{Files}
 use Rattle.filetree.specs.Lawful.{HasPaths}
 use Rattle.pattern.specs.Globs.{is_package}
-use Rattle.language.specs.Environment.{Env}
-use Rattle.language.specs.Files.{Outcome, a_module, a_package, a_need, a_fault, evaluate}
+use Rattle.evaluator_semantics.specs.Environment.{Env}
+use Rattle.evaluator_semantics.specs.Files.{Outcome, a_module, a_package, a_need, a_fault, evaluate}
 use Rattle.keys.specs.Keys.{key_eq}
 use Rattle.keys.specs.declared.key.Key.{Key}
 use Rattle.keys.specs.declared.key.Key.TheVariants as key
@@ -28,18 +28,18 @@ use Rattle.keys.specs.declared.value.BuildName.{BuildName}
 use Rattle.keys.specs.declared.value.Fault.{Fault}
 use Rattle.keys.specs.declared.value.Value.{Value}
 use Rattle.keys.specs.declared.value.Value.TheVariants as value
-use Rattle.functions.specs.declared.file_node.Source.{Source}
-use Rattle.walks.specs.Lookups.{build_of}
+use Rattle.functions.specs.declared.source.Source.{Source}
+use Rattle.functions_directories.specs.Lookups.{build_of}
 use Rattle.functions.specs.Next.{next}
 use Rattle.keys.specs.Leaves.{read}
 use Rattle.functions.specs.Once.{has_key, once_behind, once}
 use Rattle.functions.specs.Sources.{fault_at, before, each_or_fault, load_key, all_modules, glob_keys, glob_group, with_paths, value_or_group, goes_on, rounds, env_of, after_modules, after_loads, after_parse, text_in, after_text, by_file}
 use Rattle.functions.specs.Modules as modules
 use Rattle.functions.specs.Packages as packages
-use Rattle.functions.specs.Loads.{Node, of_module, of_package, File, loaded_by, with_loads, parsed, of_text, loads_in, file_of, build_file, loads}
+use Rattle.functions.specs.Loads.{Node, of_module, of_package, File, loaded_by, with_loads, file_or_fault, of_text, loads_in, file_of, build_file, loads}
 use Rattle.functions.proofs.WalkValues.{lookup_grounded, lookup_value, glob_grounded}
 use Rattle.pattern.proofs.Questions.{NoSpace}
-use Rattle.walks.proofs.GlobTexts.{name_no_space}
+use Rattle.functions_directories.proofs.GlobTexts.{name_no_space}
 use Rattle.functions.proofs.Runs as runs
 use Rattle.functions.proofs.Runs.{AllOf, same_length, enough, rest_of, taken}
 use Rattle.functions.proofs.GroupKeys.{load_of, one_key}
@@ -47,7 +47,7 @@ use Rattle.functions.proofs.NodeLoads.{IsValid, names_of, keyed, same_loads, loa
 use Rattle.functions.proofs.Lookups.{Looked, all_looked}
 use Rattle.functions.proofs.Boundaries.{look_up, lookups_are}
 
--- ---- turns that stop, told by what they ask
+-- ---- turns that stop, given by what they ask
 
 module _ {K V : Type 0} (next : K → List V → Reply K V) (read : K → Option V) where
   abbrev pub HasGround : K → Type 0
@@ -70,7 +70,7 @@ module _ {K V : Type 0} (next : K → List V → Reply K V) (read : K → Option
   stops_halts (value_of.here {group = group} e first) = here group e first
   stops_halts (value_of.later {group = group} {values = values} e are more) = later group values e (all_of are) (stops_halts more)
 
-  -- the same, told from further answers on by another function
+  -- the same, given from further answers on by another function
   pub halts_shifted : {f g : List V → Reply K V} {i : K} (before answers all : List V) → all ≡ before ++ answers
       → ((rest : List V) → f (before ++ rest) ≡ g rest) → Halts f all i → Halts g answers i
   halts_shifted {f = f} before answers all e same (here group h first) = here group (sym (same answers) ∙ ap (λ (xs : List V). f xs) (sym e) ∙ h) first
@@ -88,7 +88,7 @@ module _ {K V : Type 0} (next : K → List V → Reply K V) (read : K → Option
   no_first group i all (value_of.at_head p) = p all.0.0 all.0.1
   no_first group i all (value_of.further {keys = keys} g more) = no_first keys i all.1 more
 
-  -- it is the first member, or behind it
+  -- it is the first member, or after it
   pub first_of : {k i : K} {group : List K} → FirstIn (k ∷ group) i → (IsUngrounded next read k × (i ≡ k)) ⊎ (HasGround k × FirstIn group i)
   first_of (value_of.at_head p) = inl (p, refl)
   first_of (value_of.further {v = v} g more) = inr ((v, g), more)
@@ -204,7 +204,7 @@ module _ (files : Files) (good : HasPaths files) where
       ]
 
   module _ (s : Source) (plain : NoSpace s.package_name) where
-    -- behind the file all groups are globs but that of the loads
+    -- after the file all groups are globs but that of the loads
     loads_ask : (tree : Fi) (keys : List Key) (answers : List Value) (asked : List Key) → after_loads s tree (Ok keys) answers ≡ Ask asked → (asked ≡ once keys) ⊎ AllByRecursion Ground asked
     loads_ask tree keys answers asked e = go (nat_lt (length answers) (length (once keys))) e
       where
@@ -221,7 +221,7 @@ module _ (files : Files) (good : HasPaths files) where
       pub load : Load (loads_in r) i
       pub valid : AllByRecursion IsValid (loads_in r)
 
-    parse_halts : (i : Key) (r : Result Fi tokens.Fault) → Halts next (read files) (after_parse s r) [] i → StopsIn (parsed s.path s.package_name r) i
+    parse_halts : (i : Key) (r : Result Fi tokens.Fault) → Halts next (read files) (after_parse s r) [] i → StopsIn (file_or_fault s.path s.package_name r) i
     parse_halts i (Err f) halts = absurd (halts_ended next (read files) (value.Fault (fault_at f.code s.path f.line)) refl halts)
     parse_halts i (Ok tree) halts = go (each_or_fault (loaded_by s.path s.package_name) tree.loads) refl
       where

@@ -1,17 +1,17 @@
--- What the look-ups of a module's node tell: whether its package is one, and whether another stands on the way.
+-- What the look-ups of a module's node tell: whether its package is one, and whether another is on the way.
 use Rattle.std.proofs.Common.{◌≡◌, ℕ, List, [], ◌∷◌, map, ◌||◌, refl, ap, ◌∙◌}
 use Rattle.std.specs.List.{list_any}
-use Rattle.evaluation.specs.Value.{Grounded}
+use Rattle.engine_semantics.specs.Value.{Grounded}
 use Rattle.labels.specs.Labels.{Target, boundaries}
 use Rattle.filetree.specs.Files.{Files}
 use Rattle.filetree.specs.Lawful.{HasPaths}
 use Rattle.pattern.specs.Globs.{is_package}
 use Rattle.keys.specs.declared.value.Value.{Value}
-use Rattle.walks.specs.Globs.{has_build}
+use Rattle.functions_directories.specs.Globs.{has_build}
 use Rattle.functions.specs.Modules as modules
 use Rattle.functions.specs.Next.{next}
 use Rattle.keys.specs.Leaves.{read}
-use Rattle.walks.proofs.Builds.{built_there}
+use Rattle.functions_directories.proofs.Builds.{built_there}
 use Rattle.functions.proofs.WalkValues.{lookup_value}
 use Rattle.functions.proofs.Boundaries.{look_up}
 use Rattle.functions.proofs.Runs as runs

@@ -1,6 +1,6 @@
 -- What is shown a cycle has no value.
 use Rattle.std.proofs.Common.{ℕ, List, Result, ap, subst}
-use Rattle.evaluation.specs.Value.{In, first, after}
+use Rattle.engine_semantics.specs.Value.{In, first, after}
 use Rattle.labels.specs.Labels.{Target}
 use Rattle.filetree.specs.Files.{Files}
 use Rattle.keys.specs.declared.value.Fault.{Fault}
@@ -18,7 +18,7 @@ module _ (files : Files) where
   path_along (once c) = load (is_member c) stay
   path_along (more c follows) = load (is_member c) (path_along follows)
 
-  -- a loop of loads
+  -- a cycle of loads
   loop : {n : Node} {u : Target} {ts : List Target} → Path files n (of_module u) → Follows files (of_module u) ts u → ReachesCycle files n
   loop {u = u} comes (once c) = record { twice = u; next = u; comes = comes; loads_next = is_member c; returns = stay }
   loop {u = u} comes (more {t = t} c follows) = record { twice = u; next = t; comes = comes; loads_next = is_member c; returns = path_along follows }

@@ -1,9 +1,9 @@
 -- The cycle that a node shows is that to which the loads of the files lead.
 use Rattle.std.proofs.Common.{◌≡◌, ◌≢◌, ℕ, List, [], ◌∷◌, map, true, ◌⊎◌, inl, inr, Result, refl, sym, ap, subst, ◌∙◌}
 use Rattle.std.specs.List.{AllByRecursion, filter_map}
-use Rattle.evaluation.specs.Value as walks
-use Rattle.evaluation.specs.Value.{In, first, after, AllDiffer, Grounded, IsUngrounded, Stops, Walk, Cyclic}
-use Rattle.evaluation.specs.Rotation.{rotated}
+use Rattle.engine_semantics.specs.Value as walks
+use Rattle.engine_semantics.specs.Value.{In, first, after, AllDiffer, Grounded, IsUngrounded, Stops, Walk, Cyclic}
+use Rattle.engine_semantics.specs.Rotation.{rotated}
 use Rattle.labels.specs.Paths.{is_package_name}
 use Rattle.labels.specs.Labels.{Target, label_text}
 use Rattle.filetree.specs.Files.{Files}
@@ -180,7 +180,7 @@ module _ (files : Files) where
       no_empty : {K : Type 0} {x : K} {xs : List K} → x ∷ xs ≡ [] → ⊥
       no_empty e = absurd cc
 
-      -- from a node on its own loop
+      -- from a node on its own cycle
       on_loop : (n : Node) (v : Value) → IsNode files good n → (u : Target) (rest : List Target) (m : Key) (keys : List Key) → IsValid u → Goes n rest u → key_of files good n ≡ load_of u → m ≡ load_of u → keys ≡ map load_of rest
           → AllDiffer (m ∷ keys) → v ≡ cycle (m ∷ keys) → Shown n v
       on_loop (of_package name) v is u rest m keys is_u goes same is_m are differ is_value = absurd cc
@@ -203,7 +203,8 @@ module _ (files : Files) where
         ]
       ]
 
--- the cycle that a module's node shows is that of the files' loads, where the modules with a value are those of the files
+-- the cycle that a module's node shows is that of the files' loads, where the modules with a value are those of the
+-- files
 pub cycle_shown_module : (files : Files) (good : HasPaths files)
     → ((t : Target) (v : Value) → IsValid t → Grounded next (read files) (key.Module (label_text t)) v → (m : Module) × IsModule files t m × (v ≡ module_value m))
     → (t : Target) (v : Value) → IsValid t → Cyclic next (read files) cycle (key.Module (label_text t)) v

@@ -5,27 +5,27 @@ use Rattle.std.specs.List.{AllByRecursion}
 use Rattle.std.proofs.lemmas.Bool.{lt-ltb, le-ltb, and_parts}
 use Rattle.std.specs.Prelude.{nat_le}
 use Rattle.labels.specs.Paths.{is_path, is_package_name}
-use Rattle.evaluation.specs.Reply.{Reply, Ask}
-use Rattle.evaluation.specs.Value.{Grounded, is_leaf}
-use Rattle.evaluation.proofs.Unique.{same_value}
+use Rattle.engine_semantics.specs.Reply.{Reply, Ask}
+use Rattle.engine_semantics.specs.Value.{Grounded, is_leaf}
+use Rattle.engine_semantics.proofs.Unique.{same_value}
 use Rattle.labels.specs.Labels.{Target, label_of, would_name, label_text, label_file, is_target, is_module}
 use Rattle.labels.proofs.Segments.{reads_back}
-use Rattle.tree.specs.Tree.{Fi, Ld}
-use Rattle.tokens.specs.Reading as tokens
-use Rattle.grammar.specs.Files.{parse_of}
-use Rattle.module_values.specs.Values.{ModuleValue}
+use Rattle.syntax_tree.specs.Tree.{Fi, Ld}
+use Rattle.syntax_tokens.specs.Reading as tokens
+use Rattle.syntax_grammar.specs.Files.{parse_of}
+use Rattle.values_modules.specs.Values.{ModuleValue}
 use Rattle.filetree.specs.Files.{Files}
 use Rattle.keys.specs.declared.key.Key.{Key}
 use Rattle.keys.specs.declared.key.Key.TheVariants as key
 use Rattle.keys.specs.declared.value.Fault.{Fault}
 use Rattle.keys.specs.declared.value.Value.{Value}
 use Rattle.keys.specs.declared.value.Value.TheVariants as value
-use Rattle.functions.specs.declared.file_node.Source.{Source}
+use Rattle.functions.specs.declared.source.Source.{Source}
 use Rattle.functions.specs.Next.{next}
 use Rattle.keys.specs.Leaves.{read}
 use Rattle.functions.specs.Once.{has_key, once, answer_at}
 use Rattle.functions.specs.Sources.{fault_at, before, each_or_fault, module_key, load_key, module_in, all_modules, env_of, rounds, after_modules, after_loads, after_parse, text_in, after_text, by_file}
-use Rattle.functions.specs.Loads.{File, if_module, loaded_by, with_loads, parsed, of_text}
+use Rattle.functions.specs.Loads.{File, if_module, loaded_by, with_loads, file_or_fault, of_text}
 use Rattle.functions.specs.FilePackages.{Module, Package, IsModule, IsPackage, AreModules, none, one, all_loaded}
 use Rattle.functions.proofs.Runs as runs
 use Rattle.functions.proofs.Runs.{AllOf, Runs, shifted, run_ended, run_asked, same_length, enough, rest_of}
@@ -177,7 +177,7 @@ module _ (files : Files) where
         → Runs IsHeld (evaluation s f.tree ms) [] n v → Comes s v
 
   module _ (s : Source) (v : Value) where
-    -- behind the loads
+    -- after the loads
     evaluated : (f : File) (modules : List Module) (n : ℕ) → found_file s ≡ Ok f → f.path ≡ s.path → AreModules files f.loads modules → Runs IsHeld (after_modules s f.tree (all_loaded modules)) [] n v → Comes s v
     evaluated f modules n found at are run = go (all_loaded modules) refl run
       where
@@ -209,7 +209,7 @@ module _ (files : Files) where
             ap (λ (o : Option Value). before (module_in s.path o) (all_modules s.path group keys (values ++ rest))) (same_answer k group values rest e)
             ∙ ap (λ (r : Result (List ModuleValue) Fault). before (module_in s.path (answer_at k group values)) r) (all_same keys group values rest e)
 
-    parsed_runs : (r : Result Fi tokens.Fault) (n : ℕ) → found_file s ≡ parsed s.path s.package_name r → Runs IsHeld (after_parse s r) [] n v → Comes s v
+    parsed_runs : (r : Result Fi tokens.Fault) (n : ℕ) → found_file s ≡ file_or_fault s.path s.package_name r → Runs IsHeld (after_parse s r) [] n v → Comes s v
     parsed_runs (Err f) n found run = to_fault (fault_at f.code s.path f.line) found (run_ended (value.Fault (fault_at f.code s.path f.line)) refl run)
     parsed_runs (Ok tree) n found run = go (each_or_fault (loaded_by s.path s.package_name) tree.loads) refl
       where

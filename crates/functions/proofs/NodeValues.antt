@@ -1,6 +1,6 @@
 -- What a node holds: a value by its turns, or the cycle at which its walk ends.
 use Rattle.std.proofs.Common.{◌≡◌, ℕ, List, true, Some, None, Ok, Err, refl, sym, ap, subst, ◌∙◌}
-use Rattle.evaluation.specs.Value.{Grounded, has_run, Cyclic, Settles, leaf, run, closed}
+use Rattle.engine_semantics.specs.Value.{Grounded, has_run, Cyclic, Settles, leaf, run, closed}
 use Rattle.labels.specs.Paths.{is_package_name}
 use Rattle.labels.specs.Labels.{Target, label_text}
 use Rattle.filetree.specs.Files.{Files}

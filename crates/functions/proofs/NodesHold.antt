@@ -5,34 +5,34 @@ use Rattle.std.specs.List.{AllByRecursion, list_any}
 use Rattle.std.proofs.lemmas.Bool.{lt-ltb}
 use Rattle.std.proofs.lemmas.List.{append_assoc, append-nil}
 use lib.Pointwise.{bytes_decides}
-use Rattle.meaning.specs.Comparing.{same_text}
-use Rattle.evaluation.specs.Reply.{Reply, Ask, Done}
-use Rattle.evaluation.specs.Value.{Grounded}
-use Rattle.evaluation.proofs.Unique.{same_value}
+use Rattle.values_semantics.specs.Comparing.{same_text}
+use Rattle.engine_semantics.specs.Reply.{Reply, Ask, Done}
+use Rattle.engine_semantics.specs.Value.{Grounded}
+use Rattle.engine_semantics.proofs.Unique.{same_value}
 use Rattle.labels.specs.Paths.{is_package_name}
 use Rattle.labels.specs.Labels.{Target, label_of, label_text, label_file, boundaries}
 use Rattle.labels.proofs.Segments.{reads_back}
 use Rattle.filetree.specs.Files.{Files}
 use Rattle.filetree.specs.Lawful.{HasPaths}
 use Rattle.pattern.specs.Globs.{is_package, answer_below}
-use Rattle.grammar.specs.declared.kind.FileKind.{FileKind}
-use Rattle.grammar.specs.declared.kind.FileKind.TheVariants as k
-use Rattle.module_values.specs.Values.{ModuleValue, Target as Made}
-use Rattle.language.specs.Environment.{Env, Answers}
-use Rattle.language.specs.Globs.{answer_to}
-use Rattle.language.specs.World.{Here, Ends, ended, failed, waits, then_runs, pure}
-use Rattle.language.specs.Files.{Outcome, a_module, a_package, a_need, a_fault, evaluate, frozen_module, leaves, statements, file_level, start, all_steps, outcome_of}
-use Rattle.language.specs.Laws.{AreRight, with_answers, IsFinished}
-use Rattle.language.proofs.MoreStatements.{modules_finish, needs_asked}
+use Rattle.syntax_grammar.specs.declared.kind.FileKind.{FileKind}
+use Rattle.syntax_grammar.specs.declared.kind.FileKind.TheVariants as k
+use Rattle.values_modules.specs.Values.{ModuleValue, Target as Made}
+use Rattle.evaluator_semantics.specs.Environment.{Env, Answers}
+use Rattle.evaluator_semantics.specs.Globs.{answer_to}
+use Rattle.evaluator_semantics.specs.World.{Here, Ends, ended, failed, waits, then_runs, pure}
+use Rattle.evaluator_semantics.specs.Files.{Outcome, a_module, a_package, a_need, a_fault, evaluate, frozen_module, leaves, statements, file_level, start, all_steps, outcome_of}
+use Rattle.evaluator_semantics.specs.Laws.{AreRight, with_answers, IsFinished}
+use Rattle.evaluator_semantics.proofs.MoreStatements.{modules_finish, needs_asked}
 use Rattle.keys.specs.Keys.{key_eq}
-use Rattle.walks.specs.Globs.{glob_key}
+use Rattle.functions_directories.specs.Globs.{glob_key}
 use Rattle.keys.specs.declared.key.Key.{Key}
 use Rattle.keys.specs.declared.key.Key.TheVariants as key
 use Rattle.keys.specs.declared.value.BuildName.{BuildName}
 use Rattle.keys.specs.declared.value.Fault.{Fault}
 use Rattle.keys.specs.declared.value.Value.{Value}
 use Rattle.keys.specs.declared.value.Value.TheVariants as value
-use Rattle.walks.specs.Lookups.{build_of}
+use Rattle.functions_directories.specs.Lookups.{build_of}
 use Rattle.functions.specs.Next.{next}
 use Rattle.keys.specs.Leaves.{read}
 use Rattle.functions.specs.Once.{has_key, answer_at}
@@ -42,7 +42,7 @@ use Rattle.functions.specs.Packages as packages
 use Rattle.functions.specs.Loads.{of_module, of_package, File, file_of, build_file}
 use Rattle.functions.specs.FilePackages.{Module, Package, IsModule, IsPackage, of_file, of_load, evaluated, module_env, package_env, LeavesModule, LeavesPackage, a_value, faulty}
 use Rattle.functions.proofs.WalkValues.{lookup_value, glob_grounded}
-use Rattle.walks.proofs.GlobTexts.{name_no_space}
+use Rattle.functions_directories.proofs.GlobTexts.{name_no_space}
 use Rattle.functions.proofs.Runs as runs
 use Rattle.functions.proofs.Runs.{AllOf, all_first, Runs, shifted, run_ended, run_asked, same_length, enough, rest_of, taken, all_hold}
 use Rattle.functions.proofs.GroupKeys.{module_value, own_key, asked_once, answered, same_answer, either_left, either_right}
@@ -166,7 +166,7 @@ answer_last (x ∷ a) b p e = go (same_text p x.0) refl (answer_last a b p)
     go true h later = let wrong : Some x.1 ≡ None = ap (λ t. cond t (Some x.1) (answer_to p a)) (sym h) ∙ e in absurd cc
     go false h later = ap (λ t. cond t (Some x.1) (answer_to p (a ++ b))) h ∙ later (ap (λ t. cond t (Some x.1) (answer_to p a)) (sym h) ∙ e)
 
--- the same answers of a group, whatever is behind them
+-- the same answers of a group, whatever is after them
 same_paths : (group keys : List Key) (values rest : List Value) → length values ≡ length group → paths_by group keys (values ++ rest) ≡ paths_by group keys values
 same_paths group [] values rest e = refl
 same_paths group (k ∷ keys) values rest e = λ i. paths_or_none (same_answer k group values rest e i) ∷ same_paths group keys values rest e i
@@ -244,7 +244,7 @@ module _ (files : Files) (good : HasPaths files) (name : List ℕ) (is_name : is
           ap (λ b. cond b (Ask (glob_group env.package_name patterns)) (rounds n (with_paths env patterns []) (drop (length (glob_group env.package_name patterns)) [])))
           (lt-ltb 0 (length (glob_group env.package_name patterns)) (some patterns refl))
 
-  -- a turn with the answers of the globs that it needs, and others behind them
+  -- a turn with the answers of the globs that it needs, and others after them
   behind : (n : ℕ) (env : Env) (patterns : List (List ℕ)) (values rest : List Value) → evaluate env ≡ a_need patterns → length values ≡ length (glob_group env.package_name patterns)
       → rounds (suc n) env (values ++ rest) ≡ rounds n (with_paths env patterns values) rest
   behind n env patterns values rest e size =

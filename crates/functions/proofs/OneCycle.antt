@@ -1,24 +1,24 @@
--- A node is shown one cycle at most, wherever its loop is entered.
+-- A node is shown one cycle at most, wherever its cycle is entered.
 use Rattle.std.proofs.Common.{◌≡◌, ◌≢◌, ℕ, List, [], ◌∷◌, ◌++◌, map, Bool, true, false, cond, ◌⊎◌, inl, inr, Option, Some, None, Result, Ok, Err, refl, sym, ap, subst, ◌∙◌}
 use Rattle.std.specs.FinMap as map_of
 use Rattle.std.specs.List.{AllByRecursion, list_any}
-use Rattle.evaluation.specs.Value.{AllDiffer}
-use Rattle.evaluation.specs.Rotation.{rotated}
-use Rattle.evaluation.proofs.Loops.{differ_turned}
-use Rattle.evaluation.proofs.Rotating.{rotated_turned}
+use Rattle.engine_semantics.specs.Value.{AllDiffer}
+use Rattle.engine_semantics.specs.Rotation.{rotated}
+use Rattle.engine_semantics.proofs.Loops.{differ_turned}
+use Rattle.engine_semantics.proofs.Rotating.{rotated_turned}
 use Rattle.labels.specs.Labels.{Target, label_text, label_file, boundaries}
 use Rattle.filetree.specs.Files.{Files}
 use Rattle.pattern.specs.Globs.{is_package}
-use Rattle.tree.specs.Tree.{Fi}
-use Rattle.tokens.specs.Reading as tokens
-use Rattle.grammar.specs.declared.kind.FileKind.{FileKind}
-use Rattle.grammar.specs.declared.kind.FileKind.TheVariants as k
-use Rattle.grammar.specs.Files.{parse_of}
+use Rattle.syntax_tree.specs.Tree.{Fi}
+use Rattle.syntax_tokens.specs.Reading as tokens
+use Rattle.syntax_grammar.specs.declared.kind.FileKind.{FileKind}
+use Rattle.syntax_grammar.specs.declared.kind.FileKind.TheVariants as k
+use Rattle.syntax_grammar.specs.Files.{parse_of}
 use Rattle.keys.specs.declared.value.Fault.{Fault}
 use Rattle.keys.specs.declared.value.BuildName.{BuildName}
-use Rattle.walks.specs.Lookups.{build_of, build_path}
+use Rattle.functions_directories.specs.Lookups.{build_of, build_path}
 use Rattle.functions.specs.Sources.{fault_at, each_or_fault}
-use Rattle.functions.specs.Loads.{Node, of_module, of_package, File, loaded_by, with_loads, parsed, of_text, loads_in, build_file, loads, FirstCyclic, at_head, further, Follows, once, more, ShowsCycle}
+use Rattle.functions.specs.Loads.{Node, of_module, of_package, File, loaded_by, with_loads, file_or_fault, of_text, loads_in, build_file, loads, FirstCyclic, at_head, further, Follows, once, more, ShowsCycle}
 use Rattle.functions.specs.PackageLaws.{OneCycle}
 use Rattle.functions.proofs.NodeLoads.{IsValid, loads_valid, one_label}
 
@@ -31,7 +31,7 @@ either : (b : Bool) (r s : Result File Fault) → AllValid r → AllValid s → 
 either true r s h g = h
 either false r s h g = g
 
-parsed_valid : (path package_name : List ℕ) (r : Result Fi tokens.Fault) → AllValid (parsed path package_name r)
+parsed_valid : (path package_name : List ℕ) (r : Result Fi tokens.Fault) → AllValid (file_or_fault path package_name r)
 parsed_valid path package_name (Err f) = tt
 parsed_valid path package_name (Ok tree) = go (each_or_fault (loaded_by path package_name) tree.loads) refl
   where
@@ -87,7 +87,7 @@ module _ (files : Files) where
   one_first (further none c) (at_head d) = absurd (none d)
   one_first (further none c) (further other d) = one_first c d
 
-  -- of two ends one is behind the other
+  -- of two ends one is after the other
   abbrev Behind : Target → Target → Type 0
   Behind u w = (between : List Target) × Follows files (of_module u) between w
 
@@ -105,7 +105,7 @@ module _ (files : Files) where
   one_way {w = w} (more c left) (more {ts = ts} d right) p q =
       let same = one_first d c in pair_of (sym same) (one_way left (subst (λ (t : Target). Follows files (of_module t) ts w) same right) p.1 q.1)
 
-  -- ---- a loop, entered at a module
+  -- ---- a cycle, entered at a module
 
   record Loop (w : Target) (labels : List (List ℕ)) : Type 0 where
     rest : List Target

@@ -4,13 +4,13 @@ use Rattle.std.specs.FinMap as map_of
 use Rattle.labels.specs.Labels.{Target}
 use Rattle.filetree.specs.Files.{Files}
 use Rattle.pattern.specs.Globs.{is_package}
-use Rattle.module_values.specs.Values.{ModuleValue}
-use Rattle.language.specs.Environment.{Answers}
-use Rattle.language.specs.Globs.{answer_to}
-use Rattle.language.specs.Files.{Outcome, evaluate}
-use Rattle.language.specs.Laws.{AreRight, KnowsMore, IsFinished}
-use Rattle.language.proofs.MoreAnswers.{answer_stays}
-use Rattle.language.proofs.MoreStatements.{finished_stays}
+use Rattle.values_modules.specs.Values.{ModuleValue}
+use Rattle.evaluator_semantics.specs.Environment.{Answers}
+use Rattle.evaluator_semantics.specs.Globs.{answer_to}
+use Rattle.evaluator_semantics.specs.Files.{Outcome, evaluate}
+use Rattle.evaluator_semantics.specs.Laws.{AreRight, KnowsMore, IsFinished}
+use Rattle.evaluator_semantics.proofs.MoreAnswers.{answer_stays}
+use Rattle.evaluator_semantics.proofs.MoreStatements.{finished_stays}
 use Rattle.keys.specs.declared.value.Fault.{Fault}
 use Rattle.functions.specs.Loads.{of_module, File, file_of}
 use Rattle.functions.specs.FilePackages.{Module, Package, IsModule, IsPackage, AreModules, none, one, of_file, of_load, evaluated, all_loaded, module_env, package_env, LeavesModule, LeavesPackage, a_value, faulty}
@@ -90,7 +90,7 @@ module _ (files : Files) where
     abbrev Right : Answers → Type 0
     Right answers = AreRight answers (is_package files) (map_of.keys files) name
 
-    -- right answers are known behind others
+    -- right answers are known after others
     known : (a b : Answers) → Right a → Right b → KnowsMore b (a ++ b)
     known a b ra rb p paths e = go (answer_to p a) refl
       where

@@ -1,11 +1,11 @@
 -- What is parsed is what the definition of the tree of a text gives.
 use Rattle.std.proofs.Common.{◌≡◌, ℕ, List, Result, Ok, Err, refl, ap, ◌∙◌}
-use Rattle.tokens.specs.Reading.{Fault}
-use Rattle.tree.specs.Tree.{Fi}
-use Rattle.grammar.specs.declared.kind.FileKind.{FileKind}
-use Rattle.grammar.specs.Files.{parse_of}
-use Rattle.grammar.specs.Texts.{IsTree, IsRefused, by_tokens, by_grammar}
-use Rattle.grammar.proofs.Laws.{parse_tree, parse_refused, one_tree, no_tree_refused}
+use Rattle.syntax_tokens.specs.Reading.{Fault}
+use Rattle.syntax_tree.specs.Tree.{Fi}
+use Rattle.syntax_grammar.specs.declared.kind.FileKind.{FileKind}
+use Rattle.syntax_grammar.specs.Files.{parse_of}
+use Rattle.syntax_grammar.specs.Texts.{IsTree, IsRefused, by_tokens, by_grammar}
+use Rattle.syntax_grammar.proofs.Laws.{parse_tree, parse_refused, one_tree, no_tree_refused}
 
 -- a text is refused by one fault
 one_fault : (kind : FileKind) (bytes : List ℕ) (e f : Fault) → IsRefused kind bytes e → IsRefused kind bytes f → e ≡ f

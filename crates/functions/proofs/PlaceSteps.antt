@@ -12,7 +12,7 @@ use Rattle.keys.specs.declared.value.Value.{Value}
 use Rattle.keys.proofs.KeyLaws.{keys_total, exact_keys, exact_key_eq}
 use Rattle.functions.specs.Once.{answer_at}
 
--- the answer at a place, or what stands behind
+-- the answer at a place, or what is after
 abbrev pub answer_or : Option ℕ → List Value → Option Value → Option Value
 answer_or None answers later = later
 answer_or (Some place) answers later = slice_get answers place
@@ -25,7 +25,7 @@ none_left : (k : Key) (group : List Key) → answer_at k group [] ≡ None
 none_left k [] = refl
 none_left k (j ∷ group) = refl
 
--- one key of the group: its answer, or that of the keys behind it
+-- one key of the group: its answer, or that of the keys after it
 one_key_suc : (i : ℕ) (answers : List Value) (k j : Key) (behind : List Key) → answer_at k (j ∷ behind) (drop i answers) ≡ cond (key_eq k j) (slice_get answers i) (answer_at k behind (drop (suc i) answers))
 one_key_suc i [] k j behind = go (drop i []) (nothing i) (key_eq k j)
   where
@@ -59,7 +59,7 @@ module _ (i : ℕ) (places : BTreeMap Key ℕ) (group : List Key) (j : Key) (nex
   later : (k : Key) (answers : List Value) → key_eq k j ≡ false → answer_at k (drop (i + 1) group) (drop (i + 1) answers) ≡ answer_at k (drop i group) (drop i answers)
   later k answers e = sym (split k answers ∙ ap (λ b. cond b (slice_get answers i) (answer_at k (drop (i + 1) group) (drop (i + 1) answers))) e)
 
-  -- a key that has a place stands before
+  -- a key that has a place is before
   pub place_stays : is_some (get key_cmp places j) ≡ true → ArePlacesUpTo (i + 1) places group
   place_stays had k answers = go (get key_cmp places k) refl ∙ so_far k answers
     where

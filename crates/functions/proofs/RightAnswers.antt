@@ -3,10 +3,10 @@ use Rattle.std.proofs.Common.{◌≡◌, ℕ, List, [], ◌∷◌, Bool, true, f
 use Rattle.std.specs.Prelude.{is_some}
 use Rattle.std.specs.List.{AllByRecursion}
 use lib.Pointwise.{bytes_decides}
-use Rattle.meaning.specs.Comparing.{same_text}
-use Rattle.language.specs.Environment.{Answers}
-use Rattle.language.specs.Globs.{answer_to, unanswered}
-use Rattle.language.specs.Laws.{KnowsMore}
+use Rattle.values_semantics.specs.Comparing.{same_text}
+use Rattle.evaluator_semantics.specs.Environment.{Answers}
+use Rattle.evaluator_semantics.specs.Globs.{answer_to, queries_without_result}
+use Rattle.evaluator_semantics.specs.Laws.{KnowsMore}
 
 same_option : {A : Type 0} {x y z : A} → Some x ≡ Some y → x ≡ z → y ≡ z
 same_option e h = cc
@@ -71,7 +71,7 @@ module _ (found : List ℕ → List (List ℕ)) where
   all_answered (p ∷ ps) answers = (own_answer p (with_found ps answers), all_still ps p (with_found ps answers) (all_answered ps answers))
 
 -- where each is answered, none is asked for
-pub none_left : (ps : List (List ℕ)) (answers : Answers) → HasAll ps answers → unanswered answers [] ps ≡ []
+pub none_left : (ps : List (List ℕ)) (answers : Answers) → HasAll ps answers → queries_without_result answers [] ps ≡ []
 unfolding HasAll
 none_left [] answers h = refl
-none_left (p ∷ ps) answers h = ap (λ b. cond (b || false) (unanswered answers [] ps) (p ∷ unanswered answers (p ∷ []) ps)) h.0 ∙ none_left ps answers h.1
+none_left (p ∷ ps) answers h = ap (λ b. cond (b || false) (queries_without_result answers [] ps) (p ∷ queries_without_result answers (p ∷ []) ps)) h.0 ∙ none_left ps answers h.1

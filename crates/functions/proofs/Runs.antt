@@ -1,11 +1,11 @@
--- Turns, told by what they ask, with what holds of the members that they ask for.
+-- Turns, given by what they ask, with what holds of the members that they ask for.
 use Rattle.std.proofs.Common.{◌≡◌, ℕ, suc, List, [], ◌∷◌, ◌++◌, take, drop, length, false, Option, Some, None, refl, sym, ap, subst, ◌∙◌, arith, length-append}
 use Rattle.std.proofs.lemmas.Bool.{le-ltb}
 use Rattle.std.specs.Prelude.{nat_lt}
 use Rattle.std.proofs.lemmas.List.{append_assoc}
-use Rattle.evaluation.specs.Reply.{Reply, Ask, Done}
-use Rattle.evaluation.specs.Value as value
-use Rattle.evaluation.specs.Value.{Grounded, is_leaf, has_run, Turns, AllGrounded}
+use Rattle.engine_semantics.specs.Reply.{Reply, Ask, Done}
+use Rattle.engine_semantics.specs.Value as value
+use Rattle.engine_semantics.specs.Value.{Grounded, is_leaf, has_run, Turns, AllGrounded}
 
 module _ {K V : Type 0} where
   -- each key of a group with its value
@@ -13,13 +13,13 @@ module _ {K V : Type 0} where
     none : AllOf A [] []
     one : {k : K} {v : V} {keys : List K} {values : List V} → A k v → AllOf A keys values → AllOf A (k ∷ keys) (v ∷ values)
 
-  -- from these answers on, in so many groups, to the end v
+  -- from these answers on, in this many groups, to the end v
   pub data Runs (A : K → V → Type 0) : (List V → Reply K V) → List V → ℕ → V → Type 0 where
     ends : {f : List V → Reply K V} {answers : List V} {v : V} → f answers ≡ Done v → Runs A f answers 0 v
     asks : {f : List V → Reply K V} {answers : List V} {n : ℕ} {v : V} (group : List K) (values : List V)
         → f answers ≡ Ask group → AllOf A group values → Runs A f (answers ++ values) n v → Runs A f answers (suc n) v
 
-  -- the same, told from further answers on by another function
+  -- the same, given from further answers on by another function
   pub shifted : {A : K → V → Type 0} {f g : List V → Reply K V} {n : ℕ} {v : V} (before answers all : List V) → all ≡ before ++ answers
       → ((rest : List V) → f (before ++ rest) ≡ g rest) → Runs A f all n v → Runs A g answers n v
   shifted {f = f} before answers all e same (ends h) = ends (sym (same answers) ∙ ap (λ (xs : List V). f xs) (sym e) ∙ h)
@@ -27,12 +27,12 @@ module _ {K V : Type 0} where
       asks group values (sym (same answers) ∙ ap (λ (xs : List V). f xs) (sym e) ∙ h) are
       (shifted before (answers ++ values) (all ++ values) (ap (λ xs. xs ++ values) e ∙ append_assoc before answers values) same run)
 
-  -- what ends at once
+  -- what ends directly
   pub run_ended : {A : K → V → Type 0} {f : List V → Reply K V} {answers : List V} {n : ℕ} {v : V} (w : V) → f answers ≡ Done w → Runs A f answers n v → v ≡ w
   run_ended w e (ends h) = cc
   run_ended w e (asks group values h are run) = absurd cc
 
-  -- what asks a group first
+  -- what asks for a group first
   pub record Asked (A : K → V → Type 0) (f : List V → Reply K V) (answers : List V) (group : List K) (n : ℕ) (v : V) : Type 0 where
     pub fewer : ℕ
     pub left : n ≡ suc fewer
@@ -45,8 +45,8 @@ module _ {K V : Type 0} where
   run_asked {A = A} {f = f} {answers = answers} {v = v} group e (asks {n = n} asked values h are run) =
       let same : asked ≡ group = cc in record { fewer = n; left = refl; values = values; are = subst (λ g. AllOf A g values) same are; run = run }
 
-  -- A property of keys with their values holds of all that are grounded, where it holds of a leaf, and of a key whose members it
-  -- holds of.
+  -- A property of keys with their values holds of all that are grounded, where it holds of a leaf, and of a key whose
+  -- members it holds of.
   module _ (next : K → List V → Reply K V) (read : K → Option V) (Q : K → V → Type 0)
       (leaf : (k : K) (v : V) → read k ≡ Some v → Q k v)
       (node : (k : K) (v : V) (n : ℕ) → read k ≡ None → Runs (λ j w. Grounded next read j w × Q j w) (next k) [] n v → Q k v) where
@@ -71,7 +71,7 @@ module _ {K V : Type 0} where
   same_length none = refl
   same_length (one a more) = ap suc (same_length more)
 
--- what is behind answers that are all there
+-- what is after answers that are all there
 pub enough : {X Y : Type 0} (group : List X) (values rest : List Y) → length values ≡ length group → nat_lt (length (values ++ rest)) (length group) ≡ false
 enough group values rest e = le-ltb (length (values ++ rest)) (length group) (omega (arith, length-append values rest, e))
 

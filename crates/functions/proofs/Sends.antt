@@ -3,10 +3,10 @@ use denote.Param.Send.{IsSend, recorded_send, sendable}
 use Rattle.std.proofs.Crossing.{crosses}
 use Rattle.evaluator.proofs.Crossing.{suspended_send}
 use Rattle.evaluator.proofs.Trees.{trees_cross}
-use Rattle.grammar.proofs.kind.FileKind.TheSendSync as KindSends
+use Rattle.syntax_grammar.proofs.kind.FileKind.TheSendSync as KindSends
 use Rattle.keys.proofs.key.Key.TheSendSync as KeySends
-use Rattle.texts.proofs.text.Text.TheSendSync as TextSends
-use Rattle.functions.specs.contracts.file_node.Source
+use Rattle.base_types.proofs.text.Text.TheSendSync as TextSends
+use Rattle.functions.specs.contracts.source.Source
 use Rattle.functions.specs.contracts.reply.FileLoads
 use Rattle.functions.specs.contracts.reply.PackageEvaluation
 use Rattle.functions.specs.contracts.reply.Continuation

@@ -14,7 +14,7 @@ use Rattle.functions.specs.Sources.{faulty, by_file}
 
 -- ---- groups
 
--- those behind a group, as a slice takes them
+-- those after a group, as a slice takes them
 pub rest_values : (answers : List (Arc Value Global)) (n : ℕ) → drop n (values answers) ≡ values (take (length answers - n) (drop n answers))
 rest_values answers n = drop-map (λ (x : Arc Value Global). arc_value x) n answers ∙ ap values (sym (take_all (length answers - n) (drop n answers) (omega (arith, length-drop n answers))))
 

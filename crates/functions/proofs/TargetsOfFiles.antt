@@ -9,7 +9,7 @@ use Rattle.std.proofs.lemmas.Bool.{or_cases, false≢true, eqb-true}
 use Rattle.std.proofs.lemmas.List.{append_assoc, append-nil}
 use Rattle.std.proofs.lemmas.Map.Lookups.{exact_bytes}
 use Rattle.std.proofs.lemmas.Map.Views.{tells_apart}
-use Rattle.evaluation.specs.Value.{In, first, after}
+use Rattle.engine_semantics.specs.Value.{In, first, after}
 use Rattle.labels.specs.Labels.{Target, joined, label_file}
 use Rattle.filetree.specs.Files.{Files}
 

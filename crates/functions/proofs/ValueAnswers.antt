@@ -1,21 +1,21 @@
 -- Expressions that, by enough right answers, wait for no glob.
 use Rattle.std.proofs.Common.{ℕ, List, [], ◌∷◌}
-use Rattle.tree.specs.declared.expr.BinaryOp.{BinaryOp}
-use Rattle.tree.specs.declared.expr.BinaryOp.TheVariants as o
-use Rattle.tree.specs.Tree as t
-use Rattle.tree.specs.Tree.{Ex, Exs, Bound, Clauses, Cl}
-use Rattle.meaning.specs.declared.val.Val.{Val}
-use Rattle.meaning.specs.Heap.{Entries}
-use Rattle.meaning.specs.Operators.{is_true}
-use Rattle.meaning.specs.Functions.{KeywordArguments}
-use Rattle.language.specs.World.{World, Here, Runs, ◌>>=◌, tick, with_block}
-use Rattle.language.specs.Names.{is_native_name, new_block, clause_names}
-use Rattle.language.specs.Environment.{Env, Answers}
-use Rattle.language.specs.Targets.{store}
-use Rattle.language.specs.Loops.{Collection, nothing_yet, one_more, one_entry}
-use Rattle.language.specs.Expressions.{Call, between, fresh, value, values, each_value, entries, bound_value, aim, aims, comprehension, clauses, clause}
-use Rattle.language.specs.Laws.{with_answers}
-use Rattle.language.proofs.Quiet.{quiet}
+use Rattle.syntax_tree.specs.declared.expr.BinaryOp.{BinaryOp}
+use Rattle.syntax_tree.specs.declared.expr.BinaryOp.TheVariants as o
+use Rattle.syntax_tree.specs.Tree as t
+use Rattle.syntax_tree.specs.Tree.{Ex, Exs, Bound, Clauses, Cl}
+use Rattle.values_semantics.specs.declared.val.Val.{Val}
+use Rattle.values_semantics.specs.Heap.{Entries}
+use Rattle.values_semantics.specs.Operators.{is_true}
+use Rattle.values_semantics.specs.Functions.{KeywordArguments}
+use Rattle.evaluator_semantics.specs.World.{World, Here, Runs, ◌>>=◌, tick, with_block}
+use Rattle.evaluator_semantics.specs.Names.{is_native_name, new_block, clause_names}
+use Rattle.evaluator_semantics.specs.Environment.{Env, Answers}
+use Rattle.evaluator_semantics.specs.Targets.{store}
+use Rattle.evaluator_semantics.specs.Loops.{Collection, nothing_yet, one_more, one_entry}
+use Rattle.evaluator_semantics.specs.Expressions.{Call, between, fresh, value, values, each_value, entries, bound_value, aim, aims, comprehension, clauses, clause}
+use Rattle.evaluator_semantics.specs.Laws.{with_answers}
+use Rattle.evaluator_semantics.proofs.Quiet.{quiet}
 use Rattle.functions.proofs.Closing.{Closing, Closes, same, both, after, choose, going_over, gathering}
 use Rattle.functions.proofs.GlobAnswers.{apply_closes, apply_method_closes}
 

@@ -1,18 +1,18 @@
--- What look-ups and globs hold at the files, by the table of all nodes.
+-- The values of look-ups and globs at the files, by the table of all nodes.
 use Rattle.std.proofs.Common.{◌≡◌, ℕ, List, refl}
 use Rattle.std.specs.FinMap as map_of
-use Rattle.evaluation.specs.Value.{Grounded}
+use Rattle.engine_semantics.specs.Value.{Grounded}
 use Rattle.filetree.specs.Files.{Files}
 use Rattle.filetree.specs.Lawful.{HasPaths}
 use Rattle.pattern.specs.Globs.{is_package, answer_below}
-use Rattle.walks.specs.Globs.{glob_key}
+use Rattle.functions_directories.specs.Globs.{glob_key}
 use Rattle.keys.specs.declared.key.Key.TheVariants as key
 use Rattle.keys.specs.declared.value.Value.{Value}
 use Rattle.keys.specs.declared.value.Value.TheVariants as value
-use Rattle.walks.specs.Lookups.{build_of}
+use Rattle.functions_directories.specs.Lookups.{build_of}
 use Rattle.pattern.proofs.Questions.{NoSpace}
-use Rattle.walks.proofs.LookupValue as looked
-use Rattle.walks.proofs.GlobFinds as finds
+use Rattle.functions_directories.proofs.LookupValue as looked
+use Rattle.functions_directories.proofs.GlobFinds as finds
 use Rattle.functions.specs.Next.{next}
 use Rattle.keys.specs.Leaves.{read}
 

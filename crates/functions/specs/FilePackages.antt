@@ -6,13 +6,13 @@ use Rattle.labels.specs.Paths.{is_package_name}
 use Rattle.filetree.specs.Files.{Files}
 use Rattle.filetree.specs.Lawful.{HasPaths}
 use Rattle.pattern.specs.Globs.{is_package}
-use Rattle.grammar.specs.declared.kind.FileKind.TheVariants as k
-use Rattle.module_values.specs.Values as v
-use Rattle.language.specs.Environment.{Env, Answers}
-use Rattle.language.specs.Files.{Outcome, a_module, a_package, a_fault, evaluate}
-use Rattle.language.specs.Laws.{AreRight}
-use Rattle.language.specs.World.{Site}
-use Rattle.evaluation.specs.Value.{HasValue}
+use Rattle.syntax_grammar.specs.declared.kind.FileKind.TheVariants as k
+use Rattle.values_modules.specs.Values as v
+use Rattle.evaluator_semantics.specs.Environment.{Env, Answers}
+use Rattle.evaluator_semantics.specs.Files.{Outcome, a_module, a_package, a_fault, evaluate}
+use Rattle.evaluator_semantics.specs.Laws.{AreRight}
+use Rattle.evaluator_semantics.specs.World.{Site}
+use Rattle.engine_semantics.specs.Value.{HasValue}
 use Rattle.keys.specs.declared.key.Key.TheVariants as key
 use Rattle.keys.specs.declared.value.Fault.{Fault}
 use Rattle.keys.specs.declared.value.Value.{Value}
@@ -33,11 +33,11 @@ Package = Result (List v.Target) Fault
 abbrev pub all_loaded : List Module → Result (List v.ModuleValue) Fault
 all_loaded modules = each_or_fault (λ m. m) modules
 
--- what the evaluation of a module's file is given; it asks for no globs
+-- the environment of the evaluation of a module's file, which asks for no globs
 abbrev pub module_env : Target → File → List v.ModuleValue → Env
 module_env t f ms = record { kind = k.Bzl; label = label_text t; path = f.path; package_name = t.package_name; file = f.tree; loads = ms; globs = [] }
 
--- what that of a BUILD file is given
+-- the environment of the evaluation of a BUILD file
 abbrev pub package_env : List ℕ → File → List v.ModuleValue → Answers → Env
 package_env name f ms globs = record { kind = k.Build; label = []; path = f.path; package_name = name; file = f.tree; loads = ms; globs = globs }
 
@@ -65,8 +65,8 @@ module _ (files : Files) where
       none : AreModules [] []
       one : {t : Target} {m : Module} {ts : List Target} {modules : List Module} → IsModule t m → AreModules ts modules → AreModules (t ∷ ts) (m ∷ modules)
 
-  -- The package with a name, likewise. What a glob finds is told by all paths of the files: the answers are right for the
-  -- package, and the evaluation asks for no further one.
+  -- The package with a name, likewise. What a glob finds is defined by all paths of the files: the answers are right
+  -- for the package, and the evaluation asks for no further one.
   pub data IsPackage : List ℕ → Package → Type 0 where
     of_file : {name : List ℕ} {fault : Fault} → file_of files (of_package name) ≡ Err fault → IsPackage name (Err fault)
     of_load : {name : List ℕ} {f : File} {modules : List Module} {fault : Fault}
@@ -76,7 +76,7 @@ module _ (files : Files) where
         → AreRight answers (is_package files) (map_of.keys files) name → LeavesPackage (evaluate (package_env name f ms answers)) p
         → IsPackage name p
 
-  -- what a module's node holds: the module, its fault, or the cycle to which its loads lead
+  -- the value of a module's node: the module, its fault, or the cycle to which its loads lead
   abbrev pub HoldsModule : Target → Value → Type 0
   HoldsModule t (value.File text) = ⊥
   HoldsModule t (value.Listing names) = ⊥
@@ -87,7 +87,7 @@ module _ (files : Files) where
   HoldsModule t (value.Fault fault) = IsModule t (Err fault)
   HoldsModule t (value.Cycle labels) = ShowsCycle files (of_module t) labels
 
-  -- what a package's node holds
+  -- the value of a package's node
   abbrev pub HoldsPackage : List ℕ → Value → Type 0
   HoldsPackage name (value.File text) = ⊥
   HoldsPackage name (value.Listing names) = ⊥

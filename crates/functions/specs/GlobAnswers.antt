@@ -1,4 +1,4 @@
--- What the answers are good for, where an evaluation waits for globs of a package.
+-- What the answers give to an evaluation that waits for globs of a package.
 use Rattle.std.specs.Prelude.{◌≡◌, ◌<◌, ◌≤◌, ℕ, List, [], length, map}
 use Rattle.evaluator.specs.Files.{shared_texts}
 use Rattle.keys.specs.declared.value.Value.{Value}

@@ -1,13 +1,13 @@
--- What each kind of node asks and ends with.
+-- What each kind of node asks for and ends with.
 use Rattle.std.specs.Prelude.{List, None}
-use Rattle.evaluation.specs.Reply.{Reply, Done}
+use Rattle.engine_semantics.specs.Reply.{Reply, Done}
 use Rattle.keys.specs.declared.key.Key.{Key}
 use Rattle.keys.specs.declared.key.Key.TheVariants as key
 use Rattle.keys.specs.declared.value.Value.{Value}
 use Rattle.keys.specs.declared.value.Value.TheVariants as value
-use Rattle.walks.specs.Globs as glob
-use Rattle.walks.specs.Lookups as lookup
-use Rattle.walks.specs.Turns as names
+use Rattle.functions_directories.specs.Globs as glob
+use Rattle.functions_directories.specs.Lookups as lookup
+use Rattle.functions_directories.specs.Turns as names
 use Rattle.functions.specs.Modules as modules
 use Rattle.functions.specs.Packages as packages
 

@@ -1,16 +1,16 @@
 -- The laws of the node functions: no group has a key twice, and no turn ends with a cycle.
 use Rattle.std.proofs.Common.{◌≡◌, List, None, subst}
 use Rattle.std.specs.List.{AllByRecursion}
-use Rattle.evaluation.specs.Reply.{Reply, Ask, Done}
-use Rattle.evaluation.specs.Value.{AllDiffer}
+use Rattle.engine_semantics.specs.Reply.{Reply, Ask, Done}
+use Rattle.engine_semantics.specs.Value.{AllDiffer}
 use Rattle.keys.specs.declared.key.Key.{Key}
 use Rattle.keys.specs.declared.key.Key.TheVariants as key
 use Rattle.keys.specs.declared.value.Value.{Value}
 use Rattle.keys.specs.declared.value.Value.TheVariants as value
 use Rattle.keys.specs.Turns.{NoCycle}
-use Rattle.walks.specs.LookupLaws.{lookup_differs, lookup_plain}
-use Rattle.walks.specs.GlobLaws.{step_differs, step_plain}
-use Rattle.walks.specs.TurnLaws.{under_differs, under_plain}
+use Rattle.functions_directories.specs.LookupLaws.{lookup_differs, lookup_plain}
+use Rattle.functions_directories.specs.GlobLaws.{step_differs, step_plain}
+use Rattle.functions_directories.specs.TurnLaws.{under_differs, under_plain}
 use Rattle.functions.specs.SourceLaws.{good_module, good_package}
 use Rattle.functions.specs.Next.{next}
 

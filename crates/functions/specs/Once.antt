@@ -17,7 +17,7 @@ once_behind done (k ∷ keys) = if has_key k done then once_behind done keys els
 abbrev pub once : List Key → List Key
 once keys = once_behind [] keys
 
--- the answer of a key, by the group that was asked
+-- the answer of a key, by the group that was asked for
 abbrev pub answer_at : Key → List Key → List Value → Option Value
 answer_at k [] answers = None
 answer_at k (j ∷ group) [] = None

@@ -1,15 +1,15 @@
--- What the node of a package asks and ends with.
+-- What the node of a package asks for and ends with.
 use Rattle.std.specs.Prelude.{ℕ, List, [], ◌∷◌, Option, Some, None}
-use Rattle.meaning.specs.declared.faults.TheConstants.{NO_PACKAGE}
-use Rattle.evaluation.specs.Reply.{Reply, Ask}
-use Rattle.grammar.specs.declared.kind.FileKind.TheVariants as k
+use Rattle.values_semantics.specs.declared.faults.TheConstants.{NO_PACKAGE}
+use Rattle.engine_semantics.specs.Reply.{Reply, Ask}
+use Rattle.syntax_grammar.specs.declared.kind.FileKind.TheVariants as k
 use Rattle.keys.specs.declared.key.Key.{Key}
 use Rattle.keys.specs.declared.key.Key.TheVariants as key
 use Rattle.keys.specs.declared.value.BuildName.{BuildName}
 use Rattle.keys.specs.declared.value.Value.{Value}
 use Rattle.keys.specs.declared.value.Value.TheVariants as value
-use Rattle.functions.specs.declared.file_node.Source.{Source}
-use Rattle.walks.specs.Lookups.{build_path}
+use Rattle.functions.specs.declared.source.Source.{Source}
+use Rattle.functions_directories.specs.Lookups.{build_path}
 use Rattle.functions.specs.Sources.{faulty, by_file}
 
 -- a BUILD file has no label
@@ -30,7 +30,7 @@ abbrev pub after_lookup : List ℕ → Option BuildName → List Value → Reply
 after_lookup name None answers = faulty NO_PACKAGE name 0
 after_lookup name (Some build) answers = by_file (source_of name build) answers
 
--- The look-up, and then its BUILD file and what that asks. Fault 1 comes where there is none.
+-- The look-up, and then its BUILD file and what that asks for. Fault 1 comes if there is none.
 abbrev pub next : List ℕ → List Value → Reply Key Value
 next name [] = Ask (key.Lookup name ∷ [])
 next name (look ∷ answers) = after_lookup name (build_in look) answers

@@ -2,10 +2,10 @@
 use Rattle.std.specs.Prelude.{◌≡◌, ℕ, List, ◌++◌, Result, Ok, Err}
 use Rattle.std.specs.declared.alloc.Global.{Global}
 use Rattle.std.specs.declared.vec.Vec.{Vec}
-use Rattle.tokens.specs.Reading as tokens
-use Rattle.tree.specs.Tree.{Fi}
-use Rattle.tree.specs.Statements.{file_of}
-use Rattle.tree.specs.declared.def.File.{File}
+use Rattle.syntax_tokens.specs.Reading as tokens
+use Rattle.syntax_tree.specs.Tree.{Fi}
+use Rattle.syntax_tree.specs.Statements.{file_of}
+use Rattle.syntax_tree.specs.declared.def.File.{File}
 use Rattle.keys.specs.declared.value.Fault.{Fault}
 use Rattle.functions.specs.Sources.{fault_at}
 

@@ -5,17 +5,17 @@ use Rattle.std.specs.List.{AllByRecursion}
 use Rattle.std.specs.Cmp.{unsigned_Decides}
 use Rattle.std.specs.Cmp.Lexicographic.{pointwise}
 use Rattle.std.proofs.lemmas.Bool.{or_cases, false≢true}
-use Rattle.meaning.specs.declared.faults.TheConstants.{BAD_LABEL, BOUNDARY_CROSSED, NO_MODULE, NO_PACKAGE}
+use Rattle.values_semantics.specs.declared.faults.TheConstants.{BAD_LABEL, BOUNDARY_CROSSED, NO_MODULE, NO_PACKAGE}
 use lib.Pointwise.{pointwise_decides}
-use Rattle.evaluation.specs.Reply.{Reply, Ask, Done}
-use Rattle.evaluation.specs.Value.{AllDiffer}
+use Rattle.engine_semantics.specs.Reply.{Reply, Ask, Done}
+use Rattle.engine_semantics.specs.Value.{AllDiffer}
 use Rattle.labels.specs.Labels.{Target, label_of, label_file, boundaries}
-use Rattle.tree.specs.Tree.{Fi}
-use Rattle.tokens.specs.Reading as tokens
-use Rattle.grammar.specs.Files.{parse_of}
-use Rattle.module_values.specs.Values.{ModuleValue}
-use Rattle.language.specs.Environment.{Env}
-use Rattle.language.specs.Files.{Outcome, a_module, a_package, a_need, a_fault, evaluate}
+use Rattle.syntax_tree.specs.Tree.{Fi}
+use Rattle.syntax_tokens.specs.Reading as tokens
+use Rattle.syntax_grammar.specs.Files.{parse_of}
+use Rattle.values_modules.specs.Values.{ModuleValue}
+use Rattle.evaluator_semantics.specs.Environment.{Env}
+use Rattle.evaluator_semantics.specs.Files.{Outcome, a_module, a_package, a_need, a_fault, evaluate}
 use Rattle.keys.specs.Keys.{key_eq, kind, name_of, pattern_of, scope}
 use Rattle.keys.specs.declared.key.Key.{Key}
 use Rattle.keys.specs.declared.key.Key.TheVariants as key
@@ -24,7 +24,7 @@ use Rattle.keys.specs.declared.value.Fault.{Fault}
 use Rattle.keys.specs.declared.value.Value.{Value}
 use Rattle.keys.specs.declared.value.Value.TheVariants as value
 use Rattle.keys.specs.Turns.{NoCycle}
-use Rattle.functions.specs.declared.file_node.Source.{Source}
+use Rattle.functions.specs.declared.source.Source.{Source}
 use Rattle.functions.specs.Once.{has_key, once_behind, once}
 use Rattle.functions.specs.Sources.{fault_at, load_key, each_or_fault, all_modules, glob_group, with_paths, value_or_group, goes_on, rounds, env_of, after_modules, after_loads, after_parse, text_in, after_text, by_file}
 use Rattle.functions.specs.Modules as modules
@@ -86,7 +86,7 @@ asking group = Ask group
 abbrev ending : Value → Reply Key Value
 ending v = Done v
 
--- a turn asks no key twice, and ends with no cycle
+-- a turn asks for no key twice, and ends with no cycle
 pub record IsGood (r : Reply Key Value) : Type 0 where
   pub differ : (group : List Key) → r ≡ Ask group → AllDiffer group
   pub plain : (v : Value) → r ≡ Done v → NoCycle v

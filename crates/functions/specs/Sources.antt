@@ -1,23 +1,23 @@
 -- The node of a .bzl file or a BUILD file, from its text on: what it loads, and what its evaluation leaves.
 use Rattle.std.specs.Prelude.{ℕ, zero, suc, List, [], ◌∷◌, ◌++◌, drop, length, map, zip, nat_lt, if◌then◌else◌, Option, Some, None, Result, Ok, Err}
 use Rattle.std.specs.BTreeMap.{BTreeMap}
-use Rattle.meaning.specs.declared.faults.TheConstants.{BAD_LABEL, NO_MODULE}
-use Rattle.evaluation.specs.Reply.{Reply, Ask, Done}
+use Rattle.values_semantics.specs.declared.faults.TheConstants.{BAD_LABEL, NO_MODULE}
+use Rattle.engine_semantics.specs.Reply.{Reply, Ask, Done}
 use Rattle.labels.specs.Labels.{Target, label_of, label_text, is_module}
-use Rattle.tree.specs.Tree.{Fi, Ld}
-use Rattle.tokens.specs.Reading as tokens
-use Rattle.grammar.specs.Files.{parse_of}
-use Rattle.module_values.specs.Values.{ModuleValue}
-use Rattle.language.specs.Environment.{Env}
-use Rattle.language.specs.Laws.{with_answers}
-use Rattle.language.specs.Files.{Outcome, a_module, a_package, a_need, a_fault, evaluate}
-use Rattle.walks.specs.Globs.{glob_key, paths_of}
+use Rattle.syntax_tree.specs.Tree.{Fi, Ld}
+use Rattle.syntax_tokens.specs.Reading as tokens
+use Rattle.syntax_grammar.specs.Files.{parse_of}
+use Rattle.values_modules.specs.Values.{ModuleValue}
+use Rattle.evaluator_semantics.specs.Environment.{Env}
+use Rattle.evaluator_semantics.specs.Laws.{with_answers}
+use Rattle.evaluator_semantics.specs.Files.{Outcome, a_module, a_package, a_need, a_fault, evaluate}
+use Rattle.functions_directories.specs.Globs.{glob_key, paths_of}
 use Rattle.keys.specs.declared.key.Key.{Key}
 use Rattle.keys.specs.declared.key.Key.TheVariants as key
 use Rattle.keys.specs.declared.value.Fault.{Fault}
 use Rattle.keys.specs.declared.value.Value.{Value}
 use Rattle.keys.specs.declared.value.Value.TheVariants as value
-use Rattle.functions.specs.declared.file_node.Source.{Source}
+use Rattle.functions.specs.declared.source.Source.{Source}
 use Rattle.functions.specs.Once.{once, answer_at, answer_in}
 
 -- ---- faults
@@ -48,7 +48,7 @@ module_key (Some t) path line = if is_module t then Ok (key.Module (label_text t
 abbrev pub load_key : Source → Ld → Result Key Fault
 load_key source l = module_key (label_of l.label source.package_name) source.path l.line
 
--- the module that a load gives, or its fault, as it is; no other value comes of a load
+-- the module that a load gives, or its fault unchanged; a load has no other value
 abbrev pub module_in : List ℕ → Option Value → Result ModuleValue Fault
 module_in path None = Err (fault_at NO_MODULE path 0)
 module_in path (Some (value.File text)) = Err (fault_at NO_MODULE path 0)
@@ -109,7 +109,7 @@ value_or_group env (a_package targets) = Done (value.Package targets)
 value_or_group env (a_fault code site) = faulty code site.path site.line
 value_or_group env (a_need patterns) = Ask (glob_group env.package_name patterns)
 
--- an outcome that waits goes on once its group is answered
+-- an outcome that waits continues when its group is answered
 abbrev pub goes_on : (Env → List Value → Reply Key Value) → Env → Outcome → List Value → Reply Key Value
 goes_on more env (a_module loaded) answers = value_or_group env (a_module loaded)
 goes_on more env (a_package targets) answers = value_or_group env (a_package targets)
@@ -118,7 +118,7 @@ goes_on more env (a_need patterns) answers =
     if nat_lt (length answers) (length (glob_group env.package_name patterns)) then Ask (glob_group env.package_name patterns)
     else more (with_paths env patterns answers) (drop (length (glob_group env.package_name patterns)) answers)
 
--- at most so many times
+-- at most this many times
 abbrev pub rounds : ℕ → Env → List Value → Reply Key Value
 rounds zero env answers = value_or_group env (evaluate env)
 rounds (suc n) env answers = goes_on (λ e a. rounds n e a) env (evaluate env) answers
@@ -155,8 +155,8 @@ after_text source None answers = faulty NO_MODULE source.path 0
 after_text source (Some text) answers = after_parse source (parse_of source.kind text) answers
 
 -- The file; then all modules of its loads; then, at each call of `glob` that stops the evaluation, the globs of its
--- patterns. The first fault that applies ends it: 16 of a file that is absent; that of the parse; 15 of the first load that
--- names no module; that of the first load whose module is faulty, as it is; that of the evaluation.
+-- patterns. The first fault that applies ends it: 16 of a file that does not exist; that of the parse; 15 of the first
+-- load that names no module; that of the first load whose module is faulty, unchanged; that of the evaluation.
 abbrev pub by_file : Source → List Value → Reply Key Value
 by_file source [] = Ask (key.File source.path ∷ [])
 by_file source (file ∷ answers) = after_text source (text_in file) answers

@@ -1,36 +1,37 @@
-//! The evaluation of a file, which stops at each call of `glob` whose patterns have no answer, and goes on from there.
+//! The evaluation of a file, which stops at each call of `glob` whose patterns have no answer, and continues from
+//! there.
 ghost use Rattle.std.specs.Prelude.{◌≡◌, Ok, length, map, option_map, IfOk};
 ghost use Rattle.std.specs.Arc.{arc_value};
-ghost use Rattle.tree.specs.Statements.{file_of};
-ghost use Rattle.language.specs.Environment.{Env};
+ghost use Rattle.syntax_tree.specs.Statements.{file_of};
+ghost use Rattle.evaluator_semantics.specs.Environment.{Env};
 ghost use Rattle.evaluator.specs.Machines.{env_of};
 ghost use Rattle.evaluator.specs.Files.{shared_texts};
 ghost use Rattle.keys.specs.Turns.{values};
 ghost use Rattle.functions.specs.GlobAnswers.{IsHeard};
-ghost use Rattle.functions.specs.Goes.{led, env_in, IsWaiting, IsMade, IsOutcome, IsOf, IsWent, IsWithin, LeadsTo};
+ghost use Rattle.functions.specs.Goes.{turn_after_answers, env_in, IsWaiting, IsMade, IsOutcome, IsOf, IsWent, IsWithin, LeadsTo};
 ghost use Rattle.functions.specs.Sources as specs;
 
-use crate::file_node::Source;
-use crate::once::{answer_of, first_places, once};
-use crate::reply::{Continuation, PackageEvaluation, Reply};
+use crate::once::{answer_of, distinct_keys, first_places};
+use crate::reply::{Continuation, FileTurn, PackageEvaluation};
+use crate::source::Source;
+use base_types::{Memory, Text};
 use evaluator::{Environment, Outcome, resume, run};
+use evaluator_package_calls::{Answers, Package};
+use functions_directories::glob_key;
 use keys::{Fault, Key, Value};
-use module_values::ModuleValue;
-use package_calls::Package;
 use std::alloc::Global;
 use std::collections::BTreeMap;
 use std::sync::Arc;
 use syntax::File;
-use texts::{Memory, Text};
-use walks::glob_key;
+use values_modules::ModuleValue;
 
-// How far the answers lead an evaluation.
+// How far the answers let an evaluation advance.
 #[derive(Drop)]
 pub enum Advance {
-    // It ends, or asks.
-    Ends(Reply),
-    // It has gone on to this outcome, with so many answers.
-    Goes { outcome: Outcome, used: usize },
+    // It ends, or asks for a group.
+    Finished(FileTurn),
+    // It has reached this outcome, with this many answers.
+    Running { outcome: Outcome, used: usize },
 }
 
 // Returns the keys of the globs of patterns.
@@ -89,22 +90,22 @@ fn paths_by(
     paths_in(alloc, &places, keys, answers)
 }
 
-// What the answers are good for, where an evaluation waits.
+// What the answers give to an evaluation that waits.
 #[derive(Drop)]
 enum GlobAnswers {
-    // None is there: this group is asked.
+    // None is there: this group is asked for.
     Nothing(Vec<Key>),
-    // Too few are there: this group is asked again.
+    // Too few are there: this group is asked for again.
     TooFew(Vec<Key>),
-    // So many answers give these paths.
+    // This many answers give these paths.
     Paths {
         paths: Vec<Arc<Vec<Text>, Global>>,
         used: usize,
     },
 }
 
-// Returns what the answers are good for, where an evaluation waits for globs of a package.
-fn hear(
+// Returns what the answers give to an evaluation that waits for globs of a package.
+fn glob_results(
     alloc: Global,
     package_name: &Text,
     patterns: &[Text],
@@ -113,7 +114,7 @@ fn hear(
     ensures { IfOk result (IsHeard package_name.now patterns.now (values answers.now)) }
 {
     let keys = glob_keys(alloc, package_name, patterns)?;
-    let group = once(alloc, keys.as_slice())?;
+    let group = distinct_keys(alloc, keys.as_slice())?;
     if answers.is_empty() {
         return Ok(GlobAnswers::Nothing(group));
     }
@@ -125,27 +126,31 @@ fn hear(
     Ok(GlobAnswers::Paths { paths, used: count })
 }
 
-// Goes on with an evaluation that waits, if the answers of its group are there.
-fn wait(alloc: Global, paused: PackageEvaluation, answers: &[Arc<Value>]) -> Result<Advance, Memory>
+// Resumes an evaluation that waits, if the answers of its group are there.
+fn resume_suspended(
+    alloc: Global,
+    paused: PackageEvaluation,
+    answers: &[Arc<Value>],
+) -> Result<Advance, Memory>
     ensures within { IfOk result (IsWithin (length answers.now)) }
     ensures went { IfOk result (λ went. IsWaiting paused → IsWent (env_in paused)
         (values answers.now) went) }
 {
     let patterns = paused.suspended.patterns();
-    match hear(alloc, &paused.package_name, patterns, answers) {
+    match glob_results(alloc, &paused.package_name, patterns, answers) {
         Ok(GlobAnswers::Nothing(group)) => {
             if paused.suspended.is_large() {
                 drop(paused);
-                return Ok(Advance::Ends(Reply::Ask(group)));
+                return Ok(Advance::Finished(FileTurn::Ask(group)));
             }
-            Ok(Advance::Ends(Reply::Wait(group, Continuation::Globs(paused))))
+            Ok(Advance::Finished(FileTurn::Wait(group, Continuation::Globs(paused))))
         }
         Ok(GlobAnswers::TooFew(group)) => {
             drop(paused);
-            Ok(Advance::Ends(Reply::Ask(group)))
+            Ok(Advance::Finished(FileTurn::Ask(group)))
         }
         Ok(GlobAnswers::Paths { paths, used: count }) => {
-            Ok(Advance::Goes {
+            Ok(Advance::Running {
                 outcome: resume(paused.suspended, paths)?,
                 used: count,
             })
@@ -157,8 +162,8 @@ fn wait(alloc: Global, paused: PackageEvaluation, answers: &[Arc<Value>]) -> Res
     }
 }
 
-// Goes on with an outcome, if it waits and the answers of its group are there.
-fn go_on(
+// Continues from an outcome, if it waits and the answers of its group are there.
+fn resume_evaluation(
     alloc: Global,
     package_name: &Text,
     outcome: Outcome,
@@ -169,42 +174,42 @@ fn go_on(
         → IsOutcome env outcome → IsWent env (values answers.now) went) }
 {
     match outcome {
-        Outcome::Module(loaded) => Ok(Advance::Ends(Reply::Done(Value::Module(loaded)))),
-        Outcome::Package(targets) => Ok(Advance::Ends(Reply::Done(Value::Package(targets)))),
+        Outcome::Module(loaded) => Ok(Advance::Finished(FileTurn::Done(Value::Module(loaded)))),
+        Outcome::Package(targets) => Ok(Advance::Finished(FileTurn::Done(Value::Package(targets)))),
         Outcome::Fault(fault) => {
             let fault = Fault {
                 code: fault.code,
                 path: fault.path,
                 line: fault.line,
             };
-            Ok(Advance::Ends(Reply::Done(Value::Fault(fault))))
+            Ok(Advance::Finished(FileTurn::Done(Value::Fault(fault))))
         }
         Outcome::Need(_, suspended) => {
             let paused = PackageEvaluation {
                 package_name: package_name.share()?,
                 suspended,
             };
-            wait(alloc, paused, answers)
+            resume_suspended(alloc, paused, answers)
         }
     }
 }
 
-// Returns what the answers lead an outcome to.
-fn rounds(
+// Returns what the answers make of an outcome.
+fn answer_globs(
     alloc: Global,
     package_name: &Text,
     first: Outcome,
     answers: &[Arc<Value>],
-) -> Result<Reply, Memory>
+) -> Result<FileTurn, Memory>
     requires { IsOf package_name.now first }
     ensures { IfOk result (LeadsTo package_name.now first (values answers.now)) }
 {
     let mut outcome = first;
     let mut left = answers;
     loop {
-        match go_on(alloc, package_name, outcome, left)? {
-            Advance::Ends(reply) => return Ok(reply),
-            Advance::Goes {
+        match resume_evaluation(alloc, package_name, outcome, left)? {
+            Advance::Finished(reply) => return Ok(reply),
+            Advance::Running {
                 outcome: next,
                 used: taken,
             } => {
@@ -216,26 +221,26 @@ fn rounds(
     }
 }
 
-/// Returns what the answers lead a paused evaluation to.
-pub fn go_further(
+/// Returns what the answers make of a suspended evaluation.
+pub fn resume_with(
     alloc: Global,
     paused: PackageEvaluation,
     answers: &[Arc<Value>],
-) -> Result<Reply, Memory>
+) -> Result<FileTurn, Memory>
     requires { IsWaiting paused }
-    ensures { IfOk result (IsMade (led (env_in paused)) (values answers.now)) }
+    ensures { IfOk result (IsMade (turn_after_answers (env_in paused)) (values answers.now)) }
 {
     let package_name = paused.package_name.share()?;
-    match wait(alloc, paused, answers)? {
-        Advance::Ends(reply) => Ok(reply),
-        Advance::Goes {
+    match resume_suspended(alloc, paused, answers)? {
+        Advance::Finished(reply) => Ok(reply),
+        Advance::Running {
             outcome: next,
             used: taken,
-        } => rounds(alloc, &package_name, next, &answers[taken..]),
+        } => answer_globs(alloc, &package_name, next, &answers[taken..]),
     }
 }
 
-// Makes what the evaluation of a file is given, with no glob answered.
+// Makes the environment of the evaluation of a file, in which no glob is answered.
 fn environment(
     alloc: Global,
     source: &Source,
@@ -248,7 +253,7 @@ fn environment(
     let package = Package {
         kind: source.kind,
         name: source.package_name.share()?,
-        answers: Vec::new(alloc),
+        answers: Answers::new(alloc),
     };
     Ok(Environment {
         label: source.label.share()?,
@@ -259,19 +264,19 @@ fn environment(
     })
 }
 
-/// Returns what the evaluation of a file asks or ends with, from the answers to its globs.
-pub fn evaluated(
+/// Returns what the evaluation of a file asks for or ends with, from the answers to its globs.
+pub fn evaluate_file(
     alloc: Global,
     source: &Source,
     file: Arc<File, Global>,
     loads: Vec<ModuleValue>,
     answers: &[Arc<Value>],
-) -> Result<Reply, Memory>
+) -> Result<FileTurn, Memory>
     ensures { IfOk result
         (IsMade (specs.after_modules source.now (file_of (arc_value file)) (Ok loads.items))
         (values answers.now)) }
 {
     let environment = environment(alloc, source, file, loads)?;
     let first = run(alloc, environment)?;
-    rounds(alloc, &source.package_name, first, answers)
+    answer_globs(alloc, &source.package_name, first, answers)
 }

@@ -1,12 +1,12 @@
-//! The node functions of .bzl files and of packages: a file, what it loads, and what its node asks and ends with.
+//! The node functions of .bzl files and of packages: a file, what it loads, and what its node asks for and ends with.
 ghost use Rattle.std.specs.Prelude.{◌≡◌, ◌++◌, IfOk, OnOk, Ok, Some, map, option_map};
 ghost use Rattle.keys.specs.declared.key.Key.TheVariants as key;
 ghost use Rattle.std.specs.Arc.{arc_value};
 ghost use Rattle.std.specs.List.{list_any};
-ghost use Rattle.walks.specs.Globs.{has_build as holds_build};
-ghost use Rattle.tree.specs.Statements.{file_of, load_of};
-ghost use Rattle.evaluation.specs.Reply.{Ask};
-ghost use Rattle.grammar.specs.Files.{parse_of};
+ghost use Rattle.functions_directories.specs.Globs.{has_build as holds_build};
+ghost use Rattle.syntax_tree.specs.Statements.{file_of, load_of};
+ghost use Rattle.engine_semantics.specs.Reply.{Ask};
+ghost use Rattle.syntax_grammar.specs.Files.{parse_of};
 ghost use Rattle.keys.specs.Turns.{values};
 ghost use Rattle.functions.specs.Modules as modules;
 ghost use Rattle.functions.specs.Packages as packages;
@@ -16,29 +16,21 @@ ghost use Rattle.functions.specs.declared.reply.Continuation.TheVariants as cont
 ghost use Rattle.functions.specs.Replies.{IsReply};
 ghost use Rattle.functions.specs.Results.{IsAll, IsParsed};
 
-use crate::evaluating::evaluated;
-use crate::once::{answer_of, first_places, once};
-use crate::reply::{Continuation, FileLoads, Reply};
+use crate::evaluating::evaluate_file;
+use crate::once::{answer_of, distinct_keys, first_places};
+use crate::reply::{Continuation, FileLoads, FileTurn};
+use crate::source::Source;
+use base_types::{Memory, Text};
+use functions_directories::{build_path, has_build};
 use keys::{BuildName, Fault, Key, Value};
 use labels::{BadLabel, Label};
-use meaning::faults;
-use module_values::ModuleValue;
 use std::alloc::Global;
 use std::collections::BTreeMap;
 use std::sync::Arc;
 use syntax::{File, FileKind, Refused, parse};
-use texts::{Memory, Text};
-use tree::LoadStmt;
-use walks::{build_path, has_build};
-
-/// A .bzl file or a BUILD file: its kind, its label (of a BUILD file the empty text), its path and its package.
-#[derive(Drop)]
-pub struct Source {
-    pub kind: FileKind,
-    pub label: Text,
-    pub path: Text,
-    pub package_name: Text,
-}
+use syntax_tree::LoadStmt;
+use values_modules::ModuleValue;
+use values_semantics::faults;
 
 /// Makes a fault of a file.
 pub fn fault_at(code: u64, path: &Text, line: usize) -> Result<Fault, Memory>
@@ -102,14 +94,14 @@ pub fn load_keys(
 fn share_loaded(alloc: Global, loaded: &ModuleValue) -> Result<ModuleValue, Memory>
     ensures { IfOk result (λ l. l ≡ loaded.now) }
 {
-    let mut reached = Vec::with_capacity(alloc, loaded.reached().len())?;
-    for module in loaded.reached() {
+    let mut reached = Vec::with_capacity(alloc, loaded.reachable().len())?;
+    for module in loaded.reachable() {
         reached.push(module.share()?)?;
     }
     Ok(ModuleValue::new(loaded.body().share()?, reached))
 }
 
-// Returns the module that a load gives, or its fault, as it is.
+// Returns the module that a load gives, or its fault unchanged.
 fn module_in(
     alloc: Global,
     path: &Text,
@@ -161,35 +153,35 @@ pub fn all_modules(
     modules_in(alloc, path, &places, keys, answers)
 }
 
-// Ends with a fault.
-fn faulty(code: u64, path: &Text, line: usize) -> Result<Reply, Memory>
+// Makes a turn that ends with a fault.
+fn faulty(code: u64, path: &Text, line: usize) -> Result<FileTurn, Memory>
     ensures { IfOk result (IsReply (specs.faulty code path.now line)) }
 {
-    Ok(Reply::Done(Value::Fault(fault_at(code, path, line)?)))
+    Ok(FileTurn::Done(Value::Fault(fault_at(code, path, line)?)))
 }
 
-// Asks the modules of a file's loads. With some of their answers alone the next turn begins anew.
-fn ask_modules(group: Vec<Key>, parsed: FileLoads, answers: &[Arc<Value>]) -> Reply
+// Asks for the modules of a file's loads. If only some of their answers are there, the next turn begins from scratch.
+fn ask_modules(group: Vec<Key>, parsed: FileLoads, answers: &[Arc<Value>]) -> FileTurn
     requires { specs.after_loads parsed.source (file_of (arc_value parsed.file))
         (Ok parsed.keys.items) (values answers.now) ≡ Ask group.items }
     ensures { IsMade (table_of (continuation.Loads parsed)) (values answers.now) result }
 {
     if answers.is_empty() {
-        return Reply::Wait(group, Continuation::Loads(parsed));
+        return FileTurn::Wait(group, Continuation::Loads(parsed));
     }
-    Reply::Ask(group)
+    FileTurn::Ask(group)
 }
 
-/// Returns what comes once the keys of a file's loads are known. If none of their modules is there, the file's tree is
+/// Returns what comes after the keys of a file's loads are known. If none of their modules is there, the file's tree is
 /// kept.
 pub fn after_loads(
     alloc: Global,
     parsed: FileLoads,
     answers: &[Arc<Value>],
-) -> Result<Reply, Memory>
+) -> Result<FileTurn, Memory>
     ensures { IfOk result (IsMade (table_of (continuation.Loads parsed)) (values answers.now)) }
 {
-    let group = once(alloc, parsed.keys.as_slice())?;
+    let group = distinct_keys(alloc, parsed.keys.as_slice())?;
     let count = group.as_slice().len();
     if answers.len() < count {
         return Ok(ask_modules(group, parsed, answers));
@@ -202,8 +194,8 @@ pub fn after_loads(
         keys.as_slice(),
         answers,
     )? {
-        Ok(loads) => evaluated(alloc, &source, file, loads, &answers[count..]),
-        Err(fault) => Ok(Reply::Done(Value::Fault(fault))),
+        Ok(loads) => evaluate_file(alloc, &source, file, loads, &answers[count..]),
+        Err(fault) => Ok(FileTurn::Done(Value::Fault(fault))),
     }
 }
 
@@ -213,12 +205,12 @@ fn after_text(
     source: Source,
     text: &Text,
     answers: &[Arc<Value>],
-) -> Result<Reply, Memory>
+) -> Result<FileTurn, Memory>
     ensures { IfOk result (IsMade (specs.after_text source (Some text.now)) (values answers.now)) }
 {
     let file = match read_tree(alloc, &source, text)? {
         Ok(file) => file,
-        Err(fault) => return Ok(Reply::Done(Value::Fault(fault))),
+        Err(fault) => return Ok(FileTurn::Done(Value::Fault(fault))),
     };
     match load_keys(alloc, &source, file.loads.as_slice())? {
         Ok(keys) => {
@@ -226,11 +218,11 @@ fn after_text(
             let parsed = FileLoads { source, file, keys };
             after_loads(alloc, parsed, answers)
         }
-        Err(fault) => Ok(Reply::Done(Value::Fault(fault))),
+        Err(fault) => Ok(FileTurn::Done(Value::Fault(fault))),
     }
 }
 
-// Returns the text of a file that is there.
+// Returns the text of a file that exists.
 fn text_in(answer: &Value) -> Option<&Text>
     ensures { option_map (λ t. t.now) result ≡ specs.text_in answer.now }
 {
@@ -240,17 +232,17 @@ fn text_in(answer: &Value) -> Option<&Text>
     }
 }
 
-// Returns what a file asks or ends with, from its text on.
-fn by_file(alloc: Global, source: Source, answers: &[Arc<Value>]) -> Result<Reply, Memory>
+// Returns what a file asks for or ends with, from its text on.
+fn by_file(alloc: Global, source: Source, answers: &[Arc<Value>]) -> Result<FileTurn, Memory>
     ensures { IfOk result (IsMade (specs.by_file source) (values answers.now)) }
 {
     match answers.split_first() {
         None => {
             let file = Key::File(source.path.share()?);
-            Ok(Reply::Ask(vec![in alloc; file]?))
+            Ok(FileTurn::Ask(vec![in alloc; file]?))
         }
         Some((file, answers)) => match text_in(file) {
-            None => Ok(Reply::Done(Value::Fault(fault_at(faults::NO_MODULE, &source.path, 0)?))),
+            None => Ok(FileTurn::Done(Value::Fault(fault_at(faults::NO_MODULE, &source.path, 0)?))),
             Some(text) => after_text(alloc, source, text, answers),
         },
     }
@@ -275,7 +267,7 @@ fn lookups(alloc: Global, label: &Label) -> Result<Vec<Key>, Memory>
     keys.push(Key::Lookup(label.package_name().share()?))?;
     let names = label.boundaries(alloc)?;
     add_lookups(&mut keys, names.as_slice())?;
-    once(alloc, keys.as_slice())
+    distinct_keys(alloc, keys.as_slice())
 }
 
 // Returns whether some look-up found a BUILD file.
@@ -300,7 +292,7 @@ fn is_in_package(looks: &[Arc<Value>]) -> bool
     }
 }
 
-// Returns whether a look-up behind the first found a BUILD file.
+// Returns whether a look-up after the first found a BUILD file.
 fn is_crossed(looks: &[Arc<Value>]) -> bool
     ensures { result ≡ modules.is_crossed (values looks.now) }
 {
@@ -322,13 +314,13 @@ fn source_of(label: &Label) -> Result<Source, Memory>
     })
 }
 
-// Returns what a module asks or ends with after its look-ups.
+// Returns what a module asks for or ends with after its look-ups.
 fn after_lookups(
     alloc: Global,
     label: &Label,
     looks: &[Arc<Value>],
     answers: &[Arc<Value>],
-) -> Result<Reply, Memory>
+) -> Result<FileTurn, Memory>
     ensures { IfOk result (IsMade (modules.after_lookups label.now (values looks.now))
         (values answers.now)) }
 {
@@ -341,20 +333,20 @@ fn after_lookups(
     by_file(alloc, source_of(label)?, answers)
 }
 
-// Returns what the module of a label asks or ends with.
-fn by_lookups(alloc: Global, label: &Label, answers: &[Arc<Value>]) -> Result<Reply, Memory>
+// Returns what the module of a label asks for or ends with.
+fn by_lookups(alloc: Global, label: &Label, answers: &[Arc<Value>]) -> Result<FileTurn, Memory>
     ensures { IfOk result (IsMade (modules.by_lookups label.now) (values answers.now)) }
 {
     let group = lookups(alloc, label)?;
     let count = group.as_slice().len();
     if answers.len() < count {
-        return Ok(Reply::Ask(group));
+        return Ok(FileTurn::Ask(group));
     }
     after_lookups(alloc, label, &answers[..count], &answers[count..])
 }
 
-/// Returns what a module asks or ends with.
-pub fn of_module(alloc: Global, label: &Text, answers: &[Arc<Value>]) -> Result<Reply, Memory>
+/// Returns what a module asks for or ends with.
+pub fn of_module(alloc: Global, label: &Text, answers: &[Arc<Value>]) -> Result<FileTurn, Memory>
     ensures { IfOk result (IsMade (modules.next label.now) (values answers.now)) }
 {
     match Label::read(alloc, label.as_str(), "") {
@@ -387,17 +379,17 @@ fn build_source(alloc: Global, name: &Text, build: BuildName) -> Result<Source, 
     })
 }
 
-/// Returns what a package asks or ends with.
-pub fn of_package(alloc: Global, name: &Text, answers: &[Arc<Value>]) -> Result<Reply, Memory>
+/// Returns what a package asks for or ends with.
+pub fn of_package(alloc: Global, name: &Text, answers: &[Arc<Value>]) -> Result<FileTurn, Memory>
     ensures { IfOk result (IsMade (packages.next name.now) (values answers.now)) }
 {
     match answers.split_first() {
         None => {
             let look = Key::Lookup(name.share()?);
-            Ok(Reply::Ask(vec![in alloc; look]?))
+            Ok(FileTurn::Ask(vec![in alloc; look]?))
         }
         Some((look, answers)) => match build_in(look) {
-            None => Ok(Reply::Done(Value::Fault(fault_at(faults::NO_PACKAGE, name, 0)?))),
+            None => Ok(FileTurn::Done(Value::Fault(fault_at(faults::NO_PACKAGE, name, 0)?))),
             Some(build) => by_file(alloc, build_source(alloc, name, build)?, answers),
         },
     }

@@ -2,30 +2,29 @@
 //! which is `read_leaf` of `keys`.
 //!
 //! * `File(path)` is a leaf: its value is the text of that file, or none.
-//! * `Listing(directory)` is a leaf: its value is the names of the files and of the subdirectories in that directory, or
-//!   none.
+//! * `Listing(directory)` is a leaf: its value is the names of the files and of the subdirectories in that directory,
+//!   or none.
 //! * `Lookup(package)` asks one group, the files `BUILD.bazel` and `BUILD` of the package, but none whose path has more
 //!   than 255 bytes, and ends with the first that is there. With no path short enough it ends at once.
-//! * `Glob(directory pattern)` asks the listing of the directory, then the look-ups of the subdirectories that the pattern
-//!   goes into, and then the globs below: with a pattern that begins with `**` that of the other segments in the same
-//!   directory, and one in each of the subdirectories that are no packages. It ends with the paths that are found, from the
-//!   directory on, in byte order.
+//! * `Glob(directory pattern)` asks the listing of the directory, then the look-ups of the subdirectories that the
+//!   pattern goes into, and then the globs below: with a pattern that begins with `**` that of the other segments in
+//!   the same directory, and one in each of the subdirectories that are no packages. It ends with the paths that are
+//!   found, from the directory on, in byte order.
 //! * `Glob(directory pattern dirs)` finds directories too, those that are no packages. It also asks the look-ups of the
 //!   subdirectories that the pattern would find, and its globs below end with ` dirs` as well.
 //! * `Module(label)` asks the look-ups of its package and of each directory between the package and the file, then the
-//!   file, and then the modules of all its loads. It ends with what the evaluation of the file leaves, or with the first
-//!   fault: its package is none, a directory on the way is a package, the file is absent, its text is none of the language,
-//!   a load names no module, a load is faulty, the evaluation stops.
-//! * `Package(package)` asks its look-up, the BUILD file, the modules of all its loads, and then, at each call of `glob`
-//!   that stops the evaluation, the globs of the patterns that have no answer. It ends with its targets, or with the first
-//!   fault.
+//!   file, and then the modules of all its loads. It ends with what the evaluation of the file leaves, or with the
+//!   first fault: its package is none, a directory on the way is a package, the file is absent, its text is none of the
+//!   language, a load names no module, a load is faulty, the evaluation stops.
+//! * `Package(package)` asks its look-up, the BUILD file, the modules of all its loads, and then, at each call of
+//!   `glob` that stops the evaluation, the globs of the patterns that have no answer. It ends with its targets, or with
+//!   the first fault.
 //! * `Under(directory)` asks the look-up and the listing of the directory, and then the names at and below each of its
 //!   subdirectories. It ends with the names of all packages at and below the directory, in byte order.
 //!
 //! An empty group is not asked, and a key that repeats in a group is asked once, at its first place.
 //!
-//! Layer: loading, on base, files, syntax, values, evaluation of a file and engine. Begin at `loading.rt` and
-//! `specs/Next.antt`; what the nodes of modules and packages hold is told in `file_laws.rt`.
+//! Begin at `loading.rt` and `specs/Next.antt`; what the nodes of modules and packages hold is told in `file_laws.rt`.
 #![tactic(auto)]
 
 ghost use Rattle.functions.specs.NodeValues.{NamesHold, GlobsHold, PackagesHold};
@@ -36,6 +35,7 @@ mod file_node;
 mod loading;
 mod once;
 mod reply;
+mod source;
 
 pub use file_laws::{
     cycles_have_no_value, cycles_that_are_reached_are_shown, each_has_a_value, each_has_one_value,
@@ -45,21 +45,22 @@ pub use file_laws::{
 pub use keys::read_leaf;
 pub use loading::{LoadRules, Loading};
 
-/// States the law of the leaves and the look-ups, at each state of the files. A file's node holds its text or none, and
-/// a listing's node the names in the directory or none. A look-up's node holds which BUILD file wins, or none.
-pub fn leaves_and_look_ups_hold()
+/// States the law of the leaves and the look-ups, at each state of the files. The value of a file's node is its text or
+/// none, and that of a listing's node is the names in the directory or none. The value of a look-up's node is which
+/// BUILD file wins, or none.
+pub fn leaf_and_lookup_nodes_are_right()
     ensures { NamesHold }
 {}
 
-/// States the law of the globs, at files whose names are paths. The node of a directory and a question holds the paths
-/// that the question finds among all paths of the files, in byte order. It finds below the directory, and into no
-/// package on the way. Where it asks for directories, those that are no packages are found too.
-pub fn globs_hold_what_they_find()
+/// States the law of the globs, at files whose names are paths. The value of the node of a directory and a question is
+/// the paths that the question finds among all paths of the files, in byte order. It finds below the directory, and
+/// into no package on the way. If it asks for directories, those that are not packages are found too.
+pub fn glob_nodes_are_right()
     ensures { GlobsHold }
 {}
 
-/// States the law of the packages below a directory, at files whose names are paths. The node of a directory holds the
-/// names of all packages at and below it, in byte order.
-pub fn packages_below_are_held()
+/// States the law of the packages below a directory, at files whose names are paths. The value of the node of a
+/// directory is the names of all packages at and below it, in byte order.
+pub fn package_name_nodes_are_right()
     ensures { PackagesHold }
 {}

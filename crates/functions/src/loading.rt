@@ -6,91 +6,95 @@ ghost use Rattle.keys.specs.Turns.{values};
 ghost use Rattle.functions.specs.Goes.{IsMade, Table, MayGoOn, table_of};
 ghost use Rattle.functions.specs.NodeStates.{HoldsFrom};
 ghost use Rattle.functions.specs.Next as table;
-ghost use Rattle.walks.specs.Replies.{IsReply as IsWalked};
+ghost use Rattle.functions_directories.specs.Replies.{IsReply as IsWalked};
 
-use crate::evaluating::go_further;
+use crate::evaluating::resume_with;
 use crate::file_node::{after_loads, of_module, of_package};
-use crate::reply::{Continuation, Reply};
-use count::Count;
+use crate::reply::{Continuation, FileTurn};
+use base_ghost::Count;
+use base_types::Memory;
+use functions_directories::{Search, glob, lookup, package_names};
 use keys::{Key, Rules, Turn, Value};
 use std::alloc::Global;
 use std::sync::Arc;
-use texts::Memory;
-use walks::{Search, glob, lookup, package_names};
 
 /// Rules whose turns are the table of this crate, `specs/Next`.
 pub trait LoadRules: Rules {
-    /// What a turn asks or ends with is what the table says.
+    /// What a turn asks for or ends with is what the table says.
     ghost is_table: { (key : Key) (answers : List Value) → Self.next key answers ≡ table.next key answers };
 }
 
-// A file with its tree, or an evaluation, that waits, and how many answers stand before those that it waits for.
+// A file with its tree, or an evaluation, that waits, and how many answers are before those that it waits for.
 #[derive(Drop)]
 pub struct ResumePoint {
     taken: usize,
     continuation: Continuation,
 }
 
-/// What is kept of a node between two turns: its key and, where a file waits for its loads or a package for globs, the
+/// What is kept of a node between two turns: its key and, if a file waits for its loads or a package for globs, the
 /// file's tree or the evaluation.
 #[derive(Drop)]
 pub struct NodeState {
     key: Key,
-    // Boxed, so that the states of the many nodes that hold nothing are moved as a few words.
-    held: Option<Box<ResumePoint>>,
+    // Boxed, so that the states of the many nodes without a resume point are moved as a few words.
+    resume_point: Option<Box<ResumePoint>>,
 }
 
-// Returns the reply of a node that goes by directories, of which nothing waits.
-fn plain(reply: walks::Reply) -> Reply
+// Returns the turn of a node whose node function is by directories, for which nothing waits.
+fn without_state(reply: functions_directories::DirectoryTurn) -> FileTurn
     ensures { (next : Table) (answers : List Value) → IsWalked (next answers) reply
         → IsMade next answers result }
 {
     match reply {
-        walks::Reply::Ask(group) => Reply::Ask(group),
-        walks::Reply::Done(value) => Reply::Done(value),
+        functions_directories::DirectoryTurn::Ask(group) => FileTurn::Ask(group),
+        functions_directories::DirectoryTurn::Done(value) => FileTurn::Done(value),
     }
 }
 
 // Makes a turn of a node of which nothing is kept.
-fn from_start(alloc: Global, key: &Key, answers: &[Arc<Value>]) -> Result<Reply, Memory>
+fn from_start(alloc: Global, key: &Key, answers: &[Arc<Value>]) -> Result<FileTurn, Memory>
     ensures { IfOk result (IsMade (table.next key.now) (values answers.now)) }
 {
     match key {
-        Key::File(_) => Ok(Reply::Done(Value::File(None))),
-        Key::Listing(_) => Ok(Reply::Done(Value::Listing(None))),
-        Key::Lookup(directory) => Ok(plain(lookup(alloc, directory, answers)?)),
+        Key::File(_) => Ok(FileTurn::Done(Value::File(None))),
+        Key::Listing(_) => Ok(FileTurn::Done(Value::Listing(None))),
+        Key::Lookup(directory) => Ok(without_state(lookup(alloc, directory, answers)?)),
         Key::Glob(directory, pattern, directories) => {
             let search = Search {
                 directory: directory.as_str(),
                 directories: *directories,
                 pattern: pattern.as_str(),
             };
-            Ok(plain(glob(alloc, search, answers)?))
+            Ok(without_state(glob(alloc, search, answers)?))
         }
         Key::Module(label) => of_module(alloc, label, answers),
         Key::Package(name) => of_package(alloc, name, answers),
-        Key::Under(directory) => Ok(plain(package_names(alloc, directory, answers)?)),
+        Key::Under(directory) => Ok(without_state(package_names(alloc, directory, answers)?)),
     }
 }
 
-// Makes a turn of a node, from what waits.
-fn go_on(alloc: Global, continuation: Continuation, answers: &[Arc<Value>]) -> Result<Reply, Memory>
+// Makes a turn of a node, from the resume point.
+fn resume_node(
+    alloc: Global,
+    continuation: Continuation,
+    answers: &[Arc<Value>],
+) -> Result<FileTurn, Memory>
     requires { MayGoOn continuation }
     ensures { IfOk result (IsMade (table_of continuation) (values answers.now)) }
 {
     match continuation {
         Continuation::Loads(parsed) => after_loads(alloc, parsed, answers),
-        Continuation::Globs(paused) => go_further(alloc, paused, answers),
+        Continuation::Globs(paused) => resume_with(alloc, paused, answers),
     }
 }
 
-// Makes a turn of a node, from the state that is held of it.
+// Makes a turn of a node, from its kept state.
 fn reply_of(
     alloc: Global,
     key: &Key,
     held: Option<Box<ResumePoint>>,
     answers: &[Arc<Value>],
-) -> Result<Reply, Memory>
+) -> Result<FileTurn, Memory>
     requires { HoldsFrom held key.now (values answers.now) }
     ensures { IfOk result (IsMade (table.next key.now) (values answers.now)) }
 {
@@ -101,7 +105,7 @@ fn reply_of(
                 taken,
                 continuation,
             } = Box::into_inner(held);
-            go_on(alloc, continuation, &answers[taken..])
+            resume_node(alloc, continuation, &answers[taken..])
         }
     }
 }
@@ -145,7 +149,7 @@ impl Rules for Loading {
     fn begin(&self, key: &Key) -> Result<NodeState, Memory> {
         Ok(NodeState {
             key: key.share()?,
-            held: None,
+            resume_point: None,
         })
     }
 
@@ -155,19 +159,34 @@ impl Rules for Loading {
         answers: &[Arc<Value>],
     ) -> Result<Turn<NodeState>, Memory> {
         self.made.add_one();
-        let NodeState { key, held } = state;
+        let NodeState {
+            key,
+            resume_point: held,
+        } = state;
         match reply_of(self.alloc, &key, held, answers)? {
-            Reply::Ask(group) => Ok(Turn::Ask(NodeState { key, held: None }, group)),
-            Reply::Wait(group, continuation) => {
+            FileTurn::Ask(group) => Ok(Turn::Ask(
+                NodeState {
+                    key,
+                    resume_point: None,
+                },
+                group,
+            )),
+            FileTurn::Wait(group, continuation) => {
                 let taken = answers.len();
                 let held = ResumePoint {
                     taken,
                     continuation,
                 };
                 let held = Some(Box::new(self.alloc, held)?);
-                Ok(Turn::Ask(NodeState { key, held }, group))
+                Ok(Turn::Ask(
+                    NodeState {
+                        key,
+                        resume_point: held,
+                    },
+                    group,
+                ))
             }
-            Reply::Done(value) => Ok(Turn::Done(value)),
+            FileTurn::Done(value) => Ok(Turn::Done(value)),
         }
     }
 }

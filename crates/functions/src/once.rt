@@ -7,11 +7,11 @@ ghost use Rattle.keys.specs.Turns.{values};
 ghost use Rattle.functions.specs.Once as specs;
 ghost use Rattle.functions.specs.Once.{ArePlaces};
 
+use base_types::Memory;
 use keys::{Key, Value};
 use std::alloc::Global;
 use std::collections::{BTreeMap, BTreeSet};
 use std::sync::Arc;
-use texts::Memory;
 
 // Returns whether a key is in a set.
 fn is_among(set: &BTreeSet<Key>, key: &Key) -> bool
@@ -28,7 +28,7 @@ fn add(set: &mut BTreeSet<Key>, key: Key) -> Result<(), Memory>
     Ok(())
 }
 
-// Returns a list of one key.
+// Makes a list of one key.
 fn alone(alloc: Global, key: &Key) -> Result<Vec<Key>, Memory>
     ensures { IfOk result (λ v. v.items ≡ key.now ∷ []) }
 {
@@ -37,7 +37,7 @@ fn alone(alloc: Global, key: &Key) -> Result<Vec<Key>, Memory>
 }
 
 /// Returns the keys, each at its first place.
-pub fn once(alloc: Global, keys: &[Key]) -> Result<Vec<Key>, Memory>
+pub fn distinct_keys(alloc: Global, keys: &[Key]) -> Result<Vec<Key>, Memory>
     ensures { IfOk result (λ v. v.items ≡ specs.once keys.now) }
 {
     if let [only] = keys {
@@ -62,7 +62,7 @@ fn has_place(places: &BTreeMap<Key, usize>, key: &Key) -> bool
     places.contains_key(key)
 }
 
-// Gives a key its place.
+// Sets the place of a key.
 fn set_place(places: &mut BTreeMap<Key, usize>, key: Key, place: usize) -> Result<(), Memory>
     ensures { OnOk result (MapUpdates key_cmp places.old places.new key (Some place)) }
 {

@@ -1,24 +1,24 @@
 //! What a turn ends with, without a state.
-use crate::file_node::Source;
+use crate::source::Source;
+use base_types::Text;
 use evaluator::Suspended;
 use keys::{Key, Value};
 use std::alloc::Global;
 use std::sync::Arc;
 use syntax::File;
-use texts::Text;
 
 /// What a turn ends with, without a state.
 #[derive(Drop)]
-pub enum Reply {
-    /// A group to be asked.
+pub enum FileTurn {
+    /// A group to be asked for.
     Ask(Vec<Key>),
-    /// A group to be asked, and what goes on from its answers.
+    /// A group to be asked for, and what continues from its answers.
     Wait(Vec<Key>, Continuation),
     /// The node's value.
     Done(Value),
 }
 
-/// What goes on once its group is answered.
+/// What continues when its group is answered.
 #[derive(Drop)]
 pub enum Continuation {
     /// A file with its tree, which waits for the modules of its loads.
@@ -35,7 +35,7 @@ pub struct FileLoads {
     pub keys: Vec<Key>,
 }
 
-/// The evaluation of a file of a package, that waits for globs of which no answer is there.
+/// The evaluation of a file of a package, which waits for globs of which no answer is there.
 #[derive(Drop)]
 pub struct PackageEvaluation {
     pub package_name: Text,

@@ -1,7 +1,7 @@
--- The value of a loop does not hang on where it is entered.
+-- The value of a cycle does not depend on where it is entered.
 use Rattle.std.proofs.Common.{◌≡◌, ℕ, List, [], ◌∷◌, ◌++◌, Some, ap}
-use Rattle.evaluation.specs.Value.{AllDiffer}
-use Rattle.evaluation.proofs.Rotating.{loop_labels_turned}
+use Rattle.engine_semantics.specs.Value.{AllDiffer}
+use Rattle.engine_semantics.proofs.Rotating.{loop_labels_turned}
 use Rattle.keys.specs.declared.key.Key.{Key}
 use Rattle.keys.specs.declared.key.Key.TheVariants.{File, Listing, Lookup, Glob, Module, Package, Under}
 use Rattle.keys.specs.declared.value.Value.TheVariants as value

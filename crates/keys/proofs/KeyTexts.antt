@@ -1,4 +1,4 @@
--- Texts in which no space stands come apart at a space, so the text of a glob's key gives its parts back.
+-- Texts in which no space is come apart at a space, so the text of a glob's key gives its parts back.
 use Rattle.std.proofs.Common.{◌≡◌, ℕ, ◌<◌, List, [], ◌∷◌, ◌++◌, ◌+◌, ◌*◌, ◌==◌, Bool, true, false, cond, codes, refl, sym, ◌∙◌, ap, subst, arith}
 use Rattle.std.specs.declared.cmp.Ordering.{Ordering}
 use Rattle.std.specs.declared.cmp.Ordering.TheVariants.{Less, Equal, Greater}
@@ -29,7 +29,7 @@ whole [] (d ∷ b) y ha hb e = cc
 whole (c ∷ a) [] y ha hb e = let same : c ≡ 32 = cc in absurd (omega (arith, same, ha.0))
 whole (c ∷ a) (d ∷ b) y ha hb e = whole a b y ha.1 hb.1 (cc)
 
--- what stands after a pattern
+-- what is after a pattern
 abbrev tail_of : Bool → List ℕ
 tail_of w = cond w (codes " dirs") []
 

@@ -9,10 +9,10 @@ use Rattle.std.specs.Cmp.Lexicographic.{slice_cmp, nat_list_cmp_total}
 use Rattle.std.proofs.lemmas.Bool.{or_cases, false≢true}
 use Rattle.std.proofs.lemmas.Map.Lookups.{exact_bytes}
 use Rattle.std.proofs.lemmas.Map.Views.{tells_apart}
-use Rattle.evaluation.specs.Value.{In, first, after}
+use Rattle.engine_semantics.specs.Value.{In, first, after}
 use Rattle.labels.specs.Labels.{ancestors}
 use Rattle.filetree.specs.Files.{Files, is_ancestor}
-use Rattle.filetree.specs.Changes.{Change, put, del, path_of, changed, all_changed}
+use Rattle.filetree.specs.Changes.{Change, put, del, path_of, files_after_change, all_changed}
 use Rattle.filetree.specs.Listings.{rest_below, listing}
 use Rattle.filetree.proofs.NameLists.{rest_passes, any_rest, names_of_rests}
 use Rattle.filetree.proofs.Slashes.{ancestor_from}
@@ -61,7 +61,7 @@ passes_some t (n ∷ names) q p h = elim (or_cases (same q n) (list_any (same q)
     later true b h = refl
     later false b h = h
 
--- what stands before a slash of a path is among its ancestors
+-- what is before a slash of a path is among its ancestors
 in_each : (b : ℕ) {d : List ℕ} {xs : List (List ℕ)} → In d xs → In (b ∷ d) (map (λ x. b ∷ x) xs)
 in_each b first = first
 in_each b (after i) = after (in_each b i)
@@ -150,7 +150,7 @@ del_reads files path (key.Module label) n = refl
 del_reads files path (key.Package name) n = refl
 del_reads files path (key.Under directory) n = refl
 
-change_reads : (files : Files) (c : Change) (k : Key) → (touches (path_of c) k → ⊥) → read (changed c files) k ≡ read files k
+change_reads : (files : Files) (c : Change) (k : Key) → (touches (path_of c) k → ⊥) → read (files_after_change c files) k ≡ read files k
 change_reads files (put path text) k n = put_reads files path text k n
 change_reads files (del path) k n = del_reads files path k n
 
@@ -166,5 +166,5 @@ in_back (x ∷ xs) i = after (in_back xs i)
 pub changes_read : (files : Files) (cs : List Change) (k : Key) → (IsTouched (map path_of cs) k → ⊥) → read (all_changed cs files) k ≡ read files k
 changes_read files [] k n = refl
 changes_read files (c ∷ cs) k n =
-    changes_read (changed c files) cs k (λ i. n (in_back (leaves_of (path_of c)) i))
+    changes_read (files_after_change c files) cs k (λ i. n (in_back (leaves_of (path_of c)) i))
     ∙ change_reads files c k (λ i. n (in_front (touched_leaves (map path_of cs)) i))

@@ -1,12 +1,12 @@
--- The value that the members of a loop share.
+-- The value that the members of a cycle share.
 use Rattle.std.specs.Prelude.{ℕ, List, Option, Some, None}
-use Rattle.evaluation.specs.Rotation.{loop_labels}
+use Rattle.engine_semantics.specs.Rotation.{loop_labels}
 use Rattle.keys.specs.declared.key.Key.{Key}
 use Rattle.keys.specs.declared.key.Key.TheVariants.{File, Listing, Lookup, Glob, Module, Package, Under}
 use Rattle.keys.specs.declared.value.Value.{Value}
 use Rattle.keys.specs.declared.value.Value.TheVariants as value
 
--- the label by which a loop names the key, and none where it does not name it
+-- the label by which a cycle names the key, if it does
 abbrev pub label_of : Key → Option (List ℕ)
 label_of (File path) = None
 label_of (Listing directory) = None
@@ -16,6 +16,6 @@ label_of (Module label) = Some label
 label_of (Package name) = None
 label_of (Under directory) = None
 
--- the labels of the loop's members, turned so that the least by bytes stands first
+-- the labels of the cycle's members, rotated so that the least by bytes is first
 abbrev pub cycle : List Key → Value
 cycle keys = value.Cycle (loop_labels label_of keys)

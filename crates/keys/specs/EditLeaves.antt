@@ -1,15 +1,15 @@
 -- The leaves that edits touch.
 use Rattle.std.specs.Prelude.{ℕ, List, [], ◌∷◌, map, flat_map}
-use Rattle.evaluation.specs.Value.{In}
+use Rattle.engine_semantics.specs.Value.{In}
 use Rattle.labels.specs.Labels.{ancestors}
 use Rattle.keys.specs.declared.key.Key.{Key}
 use Rattle.keys.specs.declared.key.Key.TheVariants.{File, Listing}
 
--- of one path: its file, and the listing of each directory that it lies below, the root among them
+-- the leaves of one path: its file, and the listing of each directory that it lies below, with the root
 abbrev pub leaves_of : List ℕ → List Key
 leaves_of path = File path ∷ Listing [] ∷ map Listing (ancestors path)
 
--- of all these paths
+-- the leaves of all these paths
 abbrev pub touched_leaves : List (List ℕ) → List Key
 touched_leaves paths = flat_map leaves_of paths
 

@@ -1,4 +1,4 @@
--- The order of keys, what tells them apart, and how they are written.
+-- The order of keys, what distinguishes them, and how they are written.
 use Rattle.std.specs.Prelude.{ℕ, List, [], ◌∷◌, ◌++◌, Bool, true, false, ◌==◌, ◌<◌, codes, if◌then◌else◌}
 use Rattle.std.specs.Hash as fed
 use Rattle.std.specs.declared.cmp.Ordering.{Ordering}
@@ -18,7 +18,7 @@ kind (Module label) = 4
 kind (Package name) = 5
 kind (Under directory) = 6
 
--- the path, or the name of the directory or the package; of a module its label
+-- the path, or the name of the directory or the package, or the label of a module
 abbrev pub name_of : Key → List ℕ
 name_of (File path) = path
 name_of (Listing directory) = directory
@@ -28,7 +28,7 @@ name_of (Module label) = label
 name_of (Package name) = name
 name_of (Under directory) = directory
 
--- the pattern of a glob, and nothing of other keys
+-- the pattern of a glob, and the empty text for other keys
 abbrev pub pattern_of : Key → List ℕ
 pattern_of (File path) = []
 pattern_of (Listing directory) = []
@@ -38,7 +38,7 @@ pattern_of (Module label) = []
 pattern_of (Package name) = []
 pattern_of (Under directory) = []
 
--- 1 for a glob that finds directories too, and else 0
+-- 1 for a glob that finds directories too, and 0 otherwise
 abbrev pub scope : Key → ℕ
 scope (File path) = 0
 scope (Listing directory) = 0
@@ -48,7 +48,7 @@ scope (Module label) = 0
 scope (Package name) = 0
 scope (Under directory) = 0
 
--- the kind's word, and what stands before the name
+-- the kind's word, and what is before the name
 abbrev pub prefix : Key → List ℕ
 prefix (File path) = codes "file "
 prefix (Listing directory) = codes "listing //"
@@ -58,7 +58,7 @@ prefix (Module label) = codes "module "
 prefix (Package name) = codes "package //"
 prefix (Under directory) = codes "under //"
 
--- what stands after the kind's word: of a glob the directory, a space and the pattern, and with directories ` dirs`
+-- what is after the kind's word: for a glob the directory, a space and the pattern, and with directories ` dirs`
 abbrev pub key_name : Key → List ℕ
 key_name (File path) = path
 key_name (Listing directory) = directory
@@ -72,7 +72,7 @@ key_name (Under directory) = directory
 abbrev pub key_text : Key → List ℕ
 key_text key = prefix key ++ key_name key
 
--- by kind, then by the bytes of the name, of the pattern, and globs of files alone first
+-- keys are ordered by kind, then by the bytes of the name, of the pattern, and globs of files alone first
 abbrev pub key_cmp : Key → Key → Ordering
 key_cmp = then_cmp (on kind nat_cmp) (then_cmp (on name_of (slice_cmp nat_cmp)) (then_cmp (on pattern_of (slice_cmp nat_cmp)) (on scope nat_cmp)))
 
@@ -80,7 +80,7 @@ key_cmp = then_cmp (on kind nat_cmp) (then_cmp (on name_of (slice_cmp nat_cmp)) 
 abbrev pub key_eq : Key → Key → Bool
 key_eq = eq_of_both (on kind ◌==◌) (eq_of_both (on name_of (pointwise ◌==◌)) (eq_of_both (on pattern_of (pointwise ◌==◌)) (on scope ◌==◌)))
 
--- what the hash of a key is made of: its kind and its name, and of a glob its pattern and its scope too
+-- what the hash of a key is made of: its kind and its name, and for a glob its pattern and its scope too
 abbrev pub key_fed : Key → fed.HashWrites
 key_fed key = fed.u8 (kind key) ++ name_of key ∷ (if kind key == 3 then pattern_of key ∷ fed.u8 (scope key) else [])
 

@@ -1,4 +1,4 @@
--- Which keys are leaves, and what a leaf holds.
+-- Which keys are leaves, and the value of a leaf.
 use Rattle.std.specs.Prelude.{Option, Some, None, Bool, true, false}
 use Rattle.std.specs.FinMap as map
 use Rattle.std.specs.Option.{option_map}
@@ -23,7 +23,7 @@ is_leaf (key.Under directory) = false
 abbrev pub listed_of : Names → DirectoryView
 listed_of names = record { files = names.files; directories = names.directories }
 
--- the value of a leaf in the files, and None where the key is no leaf
+-- the value of a leaf in the files, and None if the key is not a leaf
 abbrev pub read : Files → Key → Option Value
 read files (key.File path) = Some (value.File (map.get files path))
 read files (key.Listing directory) = Some (value.Listing (option_map listed_of (listing files directory)))

@@ -1,2 +1,2 @@
--- How the logic stores what a value holds.
-pub use Rattle.module_values.specs.Storage.{loaded_code}
+-- How the logic stores what is in a value.
+pub use Rattle.values_modules.specs.Storage.{loaded_code}

@@ -8,7 +8,7 @@ use Rattle.std.specs.Cmp.Lexicographic.{pointwise}
 use lib.Pointwise.{pointwise_decides}
 use Rattle.keys.specs.declared.value.BuildName.{BuildName}
 use Rattle.keys.specs.declared.value.BuildName.TheVariants.{BuildBazel, Build}
-use Rattle.module_values.specs.EqualLaws.{targets_decide, loaded_decide}
+use Rattle.values_modules.specs.EqualLaws.{targets_decide, loaded_decide}
 use Rattle.keys.specs.declared.value.Fault as fault
 use Rattle.keys.specs.declared.value.Value.{Value}
 use Rattle.keys.specs.declared.value.Value.TheVariants.{File, Listing, Lookup, Paths, Module, Package, Fault, Cycle}

@@ -2,7 +2,7 @@
 use Rattle.std.specs.Prelude.{ℕ, List, Bool, true, false, ◌&&◌, nat_eq}
 use Rattle.std.specs.Option.{option_eq}
 use Rattle.std.specs.Cmp.Lexicographic.{pointwise}
-use Rattle.module_values.specs.Equal.{target_eq, loaded_eq}
+use Rattle.values_modules.specs.Equal.{target_eq, loaded_eq}
 use Rattle.keys.specs.Directories.{DirectoryView}
 use Rattle.keys.specs.declared.value.BuildName.{BuildName}
 use Rattle.keys.specs.declared.value.BuildName.TheVariants.{BuildBazel, Build}
@@ -20,15 +20,15 @@ build_eq BuildBazel Build = false
 build_eq Build BuildBazel = false
 build_eq Build Build = true
 
--- with the same names in the same order
+-- names that are the same in the same order
 abbrev pub listed_eq : DirectoryView → DirectoryView → Bool
 listed_eq l m = pointwise text_eq l.files m.files && pointwise text_eq l.directories m.directories
 
--- with the same code, path and line
+-- faults with the same code, path and line
 abbrev pub fault_eq : fault.Fault → fault.Fault → Bool
 fault_eq f g = nat_eq f.code g.code && text_eq f.path g.path && nat_eq f.line g.line
 
--- of one kind, with equal parts
+-- values of one kind, with equal parts
 abbrev pub value_eq : Value → Value → Bool
 value_eq (File s) (File t) = option_eq text_eq s t
 value_eq (File s) (Listing m) = false

@@ -5,7 +5,7 @@ ghost use Rattle.keys.specs.Jobs.{turns_made};
 
 use crate::key::Key;
 use crate::rules::Rules;
-use crate::turned::{Answer, Turned};
+use crate::turned::{TurnResult, Turned};
 use crate::value::Value;
 use std::marker::Model;
 use std::sync::Arc;
@@ -48,7 +48,7 @@ impl<R: Rules> Job<R> {
         }
     }
 
-    /// Returns the job of the next turn from a state that waited, which fits the key and the answers.
+    /// Returns the job of the next turn from a kept state, which fits the key and the answers.
     pub(crate) fn from_state(key: Key, state: R::State, answers: Vec<Arc<Value>>) -> Job<R>
         requires { R.fits state key (values answers.items) }
         ensures key { result.key ≡ key }
@@ -68,15 +68,15 @@ impl<R: Rules> Job<R> {
         &self.key
     }
 
-    /// Returns all answers so far, in the order asked.
+    /// Returns all answers so far, in the order in which they were asked for.
     pub fn answers(&self) -> &[Arc<Value>]
         ensures { values result.now ≡ self.now.answers }
     {
         self.answers.as_slice()
     }
 
-    /// Makes the turn, or keeps its refusal. The rules' count of turns grows by one. It does not grow if there was no
-    /// kept state and memory for a new one was refused.
+    /// Makes the turn, or keeps the error if an allocation fails. The rules' count of turns grows by one. It does not
+    /// grow if there was no kept state and the allocation of a new one failed.
     pub fn make(self, rules: &mut R) -> Turned<R>
         ensures same { result.asked ≡ self }
         ensures counted { R.turns rules.new ≡ R.turns rules.old + turns_made result.ending }
@@ -90,12 +90,12 @@ impl<R: Rules> Job<R> {
             Some(state) => state,
             None => match rules.begin(&key) {
                 Ok(state) => state,
-                Err(error) => return Turned::new(key, answers, Answer::NotBegun(error)),
+                Err(error) => return Turned::new(key, answers, TurnResult::NotBegun(error)),
             },
         };
         match rules.turn(state, answers.as_slice()) {
-            Ok(turn) => Turned::new(key, answers, Answer::Made(turn)),
-            Err(error) => Turned::new(key, answers, Answer::Refused(error)),
+            Ok(turn) => Turned::new(key, answers, TurnResult::Made(turn)),
+            Err(error) => Turned::new(key, answers, TurnResult::Refused(error)),
         }
     }
 }

@@ -8,25 +8,25 @@ ghost use Rattle.std.specs.Cmp.Lexicographic.{pointwise, slice_cmp};
 ghost use Rattle.std.specs.Ordering.{as_partial_cmp, eq_of_both, nat_cmp, on, then_cmp};
 ghost use Rattle.keys.specs.Keys.{key_cmp, key_eq, key_fed, kind, name_of, pattern_of, scope, prefix, key_name, key_text};
 
+use base_types::{Memory, Text};
 use std::alloc::Global;
 use std::cmp::Ordering;
 use std::hash::{Hash, Hasher};
-use texts::{Memory, Text};
 
 // The place of globs in the order of kinds.
 const GLOB: u8 = 3;
 
-/// What names a node. Keys are ordered by kind, as they stand here, and then by the bytes of their texts, which is the
+/// What names a node. Keys are ordered by kind, as they are here, and then by the bytes of their texts, which is the
 /// order of their fields.
 pub enum Key {
     /// A file, by its path. It is a leaf: its value is read from the files.
     File(Text),
-    /// The names in a directory, by the directory's name, which is empty for the root. It is a leaf too.
+    /// The names in a directory, by the directory's name, which is empty for the root. It is also a leaf.
     Listing(Text),
     /// Which BUILD file a package has, by the package's name, which is empty for the root.
     Lookup(Text),
-    /// What a pattern finds below a directory: the directory's name, which is empty for the root, the pattern, and whether
-    /// it finds directories too.
+    /// What a pattern finds below a directory: the directory's name, which is empty for the root, the pattern, and
+    /// whether it finds directories too.
     Glob(Text, Text, bool),
     /// What the evaluation of a .bzl file leaves, by the text of its label.
     Module(Text),
@@ -51,7 +51,7 @@ impl Drop for Key {
 }
 
 impl Key {
-    /// Returns the same key, its text shared.
+    /// Returns the same key, whose texts are shared.
     pub fn share(&self) -> Result<Key, Memory>
         ensures { IfOk result (λ k. k ≡ self.now) }
     {
@@ -83,7 +83,7 @@ impl Key {
         }
     }
 
-    // Returns the kind's word, and what stands before the name.
+    // Returns the kind's word, and what is before the name.
     fn prefix(&self) -> &'static str
         ensures { result.now ≡ prefix self.now }
     {
@@ -123,7 +123,7 @@ impl Key {
         }
     }
 
-    // Returns 1 for a glob that finds directories too, and else 0.
+    // Returns 1 for a glob that finds directories too, and 0 otherwise.
     fn scope(&self) -> u8
         ensures { result ≡ scope self.now }
     {
@@ -133,7 +133,7 @@ impl Key {
         }
     }
 
-    // Adds to a text what stands after the kind's word.
+    // Adds to a text what is after the kind's word.
     fn write_name(&self, text: &mut String) -> Result<(), Memory>
         ensures { OnOk result (string_bytes text.new ≡ string_bytes text.old ++ key_name self.now) }
     {
@@ -159,7 +159,7 @@ impl Key {
     }
 }
 
-// Compares the patterns of two keys, and then what they find.
+// Compares the patterns of two keys, and then whether they find directories too.
 fn compare_patterns(a: &Key, b: &Key) -> Ordering
     ensures { result ≡ then_cmp (on pattern_of (slice_cmp nat_cmp)) (on scope nat_cmp) a.now b.now }
 {
@@ -198,7 +198,8 @@ fn names_of_a_kind<'a>(a: &'a Key, b: &'a Key) -> Option<(&'a Text, &'a Text)>
     }
 }
 
-// Returns whether two keys of one kind have one pattern, and find the same by it. Keys that are no globs have none.
+// Returns whether two keys of one kind have one pattern, and both or neither find directories too. Keys that are not
+// globs have no pattern.
 fn same_patterns(a: &Key, b: &Key) -> bool
     requires { kind a.now ≡ kind b.now }
     ensures { result ≡ eq_of_both (on pattern_of (pointwise ◌==◌)) (on scope ◌==◌) a.now b.now }

@@ -6,9 +6,9 @@ ghost use Rattle.keys.specs.Leaves as specs;
 
 use crate::key::Key;
 use crate::value::{DirectoryNames, Value};
+use base_types::Memory;
 use filetree::{Listing, Tree};
 use std::alloc::Global;
-use texts::Memory;
 
 /// Returns whether the key is a leaf, whose value is read from the files.
 pub fn is_leaf(key: &Key) -> bool
@@ -25,7 +25,7 @@ pub fn is_leaf(key: &Key) -> bool
     }
 }
 
-// Returns the names in a directory, or none if there is no such directory.
+// Returns the names in a directory, or `None` if there is no such directory.
 fn read_listing(tree: &Tree, directory: &str) -> Result<Option<DirectoryNames>, Memory>
     ensures { IfOk result (λ l. l ≡ option_map specs.listed_of (listing tree.now directory.now)) }
 {
@@ -38,9 +38,8 @@ fn read_listing(tree: &Tree, directory: &str) -> Result<Option<DirectoryNames>, 
     }
 }
 
-/// Reads the value of a leaf from the files. A file has its text, shared, and a listing the names in its directory;
-/// either has none if there is no such file or directory. That the key is a leaf is the caller's condition. Returns
-/// `Memory` if an allocation fails.
+/// Reads the value of a leaf from the files. A file has its text, shared, and a listing has the names in its directory.
+/// The value is empty if there is no such file or directory. Returns `Memory` if an allocation fails.
 pub fn read_leaf(_alloc: Global, tree: &Tree, key: &Key) -> Result<Value, Memory>
     requires { IsTrue (specs.is_leaf key.now) }
     ensures { IfOk result (λ v. specs.read tree.now key.now ≡ Some v) }

@@ -4,23 +4,23 @@
 //! the next group to be asked or with the node's value. Between two turns a state may be kept. A leaf has no function:
 //! its value is read from the files.
 //!
-//! Layer: engine, on base, files, syntax and values. Begin at `key.rt` and `rules.rt`.
+//! Begin at `key.rt` and `rules.rt`.
 #![tactic(auto)]
 
 mod job;
 mod key;
 mod laws;
 mod leaf;
+mod paused_node;
 mod rules;
 mod turned;
 mod value;
-mod waiting;
 
 pub use job::Job;
 pub use key::Key;
 pub use laws::{keys_are_in_the_order_of_their_texts, texts_tell_keys_apart};
 pub use leaf::{is_leaf, read_leaf};
+pub use paused_node::PausedNode;
 pub use rules::{Rules, Turn};
-pub use turned::{Step, Turned};
+pub use turned::{TurnEnd, Turned};
 pub use value::{BuildName, DirectoryNames, Fault, Names, Paths, Value};
-pub use waiting::Waiting;

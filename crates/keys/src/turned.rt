@@ -7,30 +7,30 @@ ghost use Rattle.keys.specs.Jobs.{Made};
 ghost use Rattle.keys.specs.Answers.{ending_of, IsAnswer};
 
 use crate::key::Key;
+use crate::paused_node::PausedNode;
 use crate::rules::{Rules, Turn};
 use crate::value::Value;
-use crate::waiting::Waiting;
+use base_types::Memory;
 use std::marker::Model;
 use std::sync::Arc;
-use texts::Memory;
 
-// What came of a turn.
+// The result of a turn.
 #[derive(Drop)]
-pub(crate) enum Answer<S: Drop> {
+pub(crate) enum TurnResult<S: Drop> {
     // It was made.
     Made(Turn<S>),
-    // It was refused for memory.
+    // An allocation failed in the turn.
     Refused(Memory),
-    // It was not begun, since no state could be made for want of memory.
+    // The turn was not begun, since the allocation of a state failed.
     NotBegun(Memory),
 }
 
-/// A turn that was made, or that was refused for memory. A contract sees its job and how it ended.
+/// A turn that was made, or that failed because an allocation failed. A contract sees its job and how it ended.
 #[derive(Drop)]
 pub struct Turned<R: Rules> {
     key: Key,
     answers: Vec<Arc<Value>>,
-    answer: Answer<R::State>,
+    answer: TurnResult<R::State>,
 }
 
 impl<R: Rules> Model for Turned<R> {
@@ -53,16 +53,16 @@ impl<R: Rules> Model for Turned<R> {
 
 /// What a turn leads to.
 #[derive(Drop)]
-pub enum Step<R: Rules> {
+pub enum TurnEnd<R: Rules> {
     /// The node waits for a group.
-    Wait(Waiting<R>),
+    Paused(PausedNode<R>),
     /// The node's key and its value.
-    End(Key, Value),
+    Done(Key, Value),
 }
 
 impl<R: Rules> Turned<R> {
-    // Makes the record of a turn of this key from these answers, with what came of it.
-    pub(crate) fn new(key: Key, answers: Vec<Arc<Value>>, answer: Answer<R::State>) -> Turned<R>
+    // Makes the record of a turn of this key from these answers, with its result.
+    pub(crate) fn new(key: Key, answers: Vec<Arc<Value>>, answer: TurnResult<R::State>) -> Turned<R>
         requires { IsAnswer R.fits R.next key (values answers.items) answer }
         ensures key { result.asked.key ≡ key }
         ensures answers { result.asked.answers ≡ values answers.items }
@@ -82,25 +82,25 @@ impl<R: Rules> Turned<R> {
         &self.key
     }
 
-    /// Returns the answers that the turn was made from, in the order asked.
+    /// Returns the answers that the turn was made from, in the order in which they were asked for.
     pub fn answers(&self) -> &[Arc<Value>]
         ensures { values result.now ≡ self.now.asked.answers }
     {
         self.answers.as_slice()
     }
 
-    /// Returns whether the turn was made, and not refused for memory.
+    /// Returns whether the turn was made, and no allocation failed.
     pub fn is_made(&self) -> bool
         ensures { Decides result (self.now.ending ≡ Made) }
     {
         match self.answer {
-            Answer::Made(_) => true,
-            Answer::Refused(_) => false,
-            Answer::NotBegun(_) => false,
+            TurnResult::Made(_) => true,
+            TurnResult::Refused(_) => false,
+            TurnResult::NotBegun(_) => false,
         }
     }
 
-    /// Returns the turn if it was made, and else why it was not.
+    /// Returns the turn if it was made, and otherwise why it was not.
     pub fn made(self) -> Result<Turned<R>, Memory>
         ensures same { IfOk result (λ turned. turned ≡ self) }
         ensures made { IsOk result ↔ (self.ending ≡ Made) }
@@ -111,18 +111,18 @@ impl<R: Rules> Turned<R> {
             answer,
         } = self;
         match answer {
-            Answer::Made(turn) => Ok(Turned {
+            TurnResult::Made(turn) => Ok(Turned {
                 key,
                 answers,
-                answer: Answer::Made(turn),
+                answer: TurnResult::Made(turn),
             }),
-            Answer::Refused(error) => Err(error),
-            Answer::NotBegun(error) => Err(error),
+            TurnResult::Refused(error) => Err(error),
+            TurnResult::NotBegun(error) => Err(error),
         }
     }
 
     /// Returns what the turn leads to, or `Memory` if it was not made.
-    pub fn settle(self) -> Result<Step<R>, Memory>
+    pub fn into_end(self) -> Result<TurnEnd<R>, Memory>
         ensures made { IsOk result ↔ (self.ending ≡ Made) }
         ensures step { IfOk result (IsStep R.next self.asked) }
     {
@@ -132,12 +132,12 @@ impl<R: Rules> Turned<R> {
             answer,
         } = self;
         match answer {
-            Answer::Made(Turn::Ask(state, group)) => Ok(Step::Wait(Waiting::new(
+            TurnResult::Made(Turn::Ask(state, group)) => Ok(TurnEnd::Paused(PausedNode::new(
                 key, state, answers, group,
             ))),
-            Answer::Made(Turn::Done(value)) => Ok(Step::End(key, value)),
-            Answer::Refused(error) => Err(error),
-            Answer::NotBegun(error) => Err(error),
+            TurnResult::Made(Turn::Done(value)) => Ok(TurnEnd::Done(key, value)),
+            TurnResult::Refused(error) => Err(error),
+            TurnResult::NotBegun(error) => Err(error),
         }
     }
 }

@@ -1,4 +1,4 @@
-//! What a node holds.
+//! The value of a node.
 ghost use Rattle.std.specs.Prelude.{◌≡◌, IfOk};
 ghost use Rattle.std.specs.Cmp.{partial_equiv_from_equiv};
 ghost use Rattle.std.specs.Cmp.Lexicographic.{pointwise};
@@ -6,11 +6,11 @@ ghost use Rattle.std.specs.Arc.{arc_value};
 ghost use Rattle.keys.specs.Values.{text_eq, build_eq, listed_eq, fault_eq, value_eq};
 ghost use Rattle.keys.specs.ValueLaws.{builds_equiv, names_equiv, listed_equiv, faults_equiv, values_equiv};
 
-use module_values::{ModuleValue, Targets};
+use base_types::{Memory, Text};
 use std::alloc::Global;
 use std::marker::Model;
 use std::sync::Arc;
-use texts::{Memory, Text};
+use values_modules::{ModuleValue, Targets};
 
 /// The file that makes a directory a package.
 #[derive(Clone, Copy)]
@@ -39,7 +39,7 @@ impl Eq for BuildName {
     ghost laws = { builds_equiv };
 }
 
-/// Texts in order, as the labels of a loop's members. A contract sees a list of texts.
+/// Texts in order, as the labels of a cycle's members. A contract sees a list of texts.
 pub struct Names {
     items: Vec<Text>,
 }
@@ -211,14 +211,14 @@ impl Eq for Paths {
     ghost laws = { names_equiv };
 }
 
-/// A fault of a .bzl file or of a BUILD file: its code, the file (of a package that is none, the package) and the line
-/// where it is shown.
+/// A fault of a .bzl file or of a BUILD file: its code, its file and the line where it is shown. If a package does not
+/// exist, the package takes the place of the file.
 pub struct Fault {
     /// Which fault.
     pub code: u64,
-    /// Of the file, or of the package.
+    /// The path of the file, or the name of the package.
     pub path: Text,
-    /// Counted from 1; 0 where no line is shown.
+    /// The line, counted from 1, or 0 where no line is shown.
     pub line: usize,
 }
 
@@ -233,7 +233,7 @@ impl Drop for Fault {
 }
 
 impl Fault {
-    /// Returns the same fault, its text shared.
+    /// Returns the same fault, whose text is shared.
     pub fn share(&self) -> Result<Fault, Memory>
         ensures { IfOk result (λ f. f ≡ self.now) }
     {
@@ -259,14 +259,14 @@ impl Eq for Fault {
     ghost laws = { faults_equiv };
 }
 
-/// What a node holds. Two values are equal exactly where a contract sees one value: a node whose new value is equal
+/// The value of a node. Two values are equal exactly where a contract sees one value: a node whose new value is equal
 /// to the recorded one did not change.
 pub enum Value {
-    /// Of a file: none, or its text.
+    /// Of a file: its text, if it exists.
     File(Option<Text>),
-    /// Of a listing: none, or the names in the directory.
+    /// Of a listing: the names in the directory, if it exists.
     Listing(Option<DirectoryNames>),
-    /// Of a look-up: no BUILD file, or which.
+    /// Of a look-up: which BUILD file there is, if there is one.
     Lookup(Option<BuildName>),
     /// Of a glob: the paths that it finds, from its directory on.
     Paths(Paths),
@@ -276,8 +276,8 @@ pub enum Value {
     Package(Targets),
     /// Of a module or a package whose file, or one of whose loads, has a fault.
     Fault(Fault),
-    /// Of a node that can't be evaluated since it leads into a loop: the labels of the loop's members, of those that
-    /// have one, turned so that the least by bytes stands first.
+    /// Of a node that cannot be evaluated since it leads into a cycle: the labels of the cycle's members that have one,
+    /// rotated so that the least by bytes is first.
     Cycle(Names),
 }
 

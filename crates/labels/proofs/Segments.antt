@@ -47,7 +47,7 @@ joined_path t good =
     ] in
     and_from (nat_le (length (label_file t)) 255) (list_all is_segment (segments (label_file t))) parts.1 (all (length t.package_name == 0) refl)
 
--- no colon stands in a package's name
+-- no colon is in a package's name
 name_byte_no_colon : (b : ℕ) → is_name_byte b ≡ true → not (is_colon b) ≡ true
 name_byte_no_colon b h =
     elim (is_colon b) as (λ e. is_colon b ≡ e → not e ≡ true) [

@@ -14,7 +14,7 @@ is_slash b = b == 47
 abbrev pub is_colon : ℕ → Bool
 is_colon b = b == 58
 
--- a name below a package: behind the package's name and a slash, and alone below the root
+-- a name below a package: after the package's name and a slash, and by itself below the root
 abbrev pub joined : List ℕ → List ℕ → List ℕ
 joined package_name name = if length package_name == 0 then name else package_name ++ 47 ∷ name
 
@@ -48,15 +48,15 @@ would_name text present =
 abbrev pub label_of : List ℕ → List ℕ → Option Target
 label_of text present = if is_target (would_name text present) then Some (would_name text present) else None
 
--- of a module: the name ends in `.bzl`
+-- a label of a module: the name ends in `.bzl`
 abbrev pub is_module : Target → Bool
 is_module t = ends_with nat_eq t.name (codes ".bzl")
 
--- the proper ancestors of a path, shortest first: what stands before each slash
+-- the proper ancestors of a path, shortest first: what is before each slash
 abbrev pub ancestors : List ℕ → List (List ℕ)
 ancestors [] = []
 ancestors (b ∷ path) = if b == 47 then [] ∷ each (λ d. b ∷ d) (ancestors path) else each (λ d. b ∷ d) (ancestors path)
 
--- the packages that would stand between the label's package and its file
+-- the packages that would be between the label's package and its file
 abbrev pub boundaries : Target → List (List ℕ)
 boundaries t = each (joined t.package_name) (ancestors t.name)

@@ -7,7 +7,7 @@ abbrev pub is_name_byte : ℕ → Bool
 is_name_byte b =
     nat_le 48 b && nat_le b 57 || nat_le 65 b && nat_le b 90 || nat_le 97 b && nat_le b 122 || b == 95 || b == 45 || b == 46
 
--- neither empty nor `.` nor `..`, and made of these
+-- neither empty nor `.` nor `..`, and made of these bytes
 abbrev pub is_segment : List ℕ → Bool
 is_segment name = not (length name == 0 || bytes_eq name (codes ".") || bytes_eq name (codes "..")) && list_all is_name_byte name
 

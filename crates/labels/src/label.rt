@@ -5,9 +5,9 @@ ghost use Rattle.labels.specs.Labels as labels;
 ghost use Rattle.labels.specs.Paths.{is_path};
 
 use crate::path::{is_package_name, is_path};
+use base_types::{Memory, Text};
 use std::alloc::{AllocError, Global};
 use std::marker::Model;
-use texts::{Memory, Text};
 use thiserror::Error;
 
 /// Why there is no label.
@@ -16,7 +16,7 @@ pub enum BadLabel {
     /// The text is not a label.
     #[error("not a label")]
     Code15,
-    /// A growth was refused.
+    /// An allocation failed.
     #[error("out of memory")]
     Memory(Memory),
 }
@@ -24,7 +24,7 @@ pub enum BadLabel {
 impl From<Memory> for BadLabel {
     ghost use Rattle.std.specs.Prelude.{◌≡◌};
     ghost use Rattle.labels.specs.declared.label.BadLabel.TheVariants.{Memory};
-    ghost use Rattle.texts.specs.Refusals.{memory};
+    ghost use Rattle.base_types.specs.Refusals.{memory};
 
     ghost from_gives = { λ _ e. e ≡ Memory memory };
 
@@ -36,7 +36,7 @@ impl From<Memory> for BadLabel {
 impl From<AllocError> for BadLabel {
     ghost use Rattle.std.specs.Prelude.{◌≡◌};
     ghost use Rattle.labels.specs.declared.label.BadLabel.TheVariants.{Memory};
-    ghost use Rattle.texts.specs.Refusals.{memory};
+    ghost use Rattle.base_types.specs.Refusals.{memory};
 
     ghost from_gives = { λ _ e. e ≡ Memory memory };
 
@@ -54,7 +54,7 @@ fn last_segment(text: &str) -> &str
     }
 }
 
-// Returns the package and the name that the text behind `//` stands for.
+// Returns the package and the name that the text after `//` stands for.
 fn absolute(text: &str) -> (&str, &str)
     ensures package_name { result.0.now ≡ (labels.absolute text.now).package_name }
     ensures name { result.1.now ≡ (labels.absolute text.now).name }
@@ -65,7 +65,7 @@ fn absolute(text: &str) -> (&str, &str)
     }
 }
 
-fn would_name<'a>(text: &'a str, present: &'a str) -> (&'a str, &'a str)
+fn label_of_parts<'a>(text: &'a str, present: &'a str) -> (&'a str, &'a str)
     ensures package_name { result.0.now ≡ (labels.would_name text.now present.now).package_name }
     ensures name { result.1.now ≡ (labels.would_name text.now present.now).name }
 {
@@ -91,7 +91,7 @@ fn is_target(package_name: &str, name: &str) -> bool
     package_name.len() < 255 && package_name.len() + 1 + name.len() <= 255
 }
 
-fn joined(alloc: Global, package_name: &str, name: &str) -> Result<Text, Memory>
+fn join_parts(alloc: Global, package_name: &str, name: &str) -> Result<Text, Memory>
     ensures { IfOk result (λ t. t ≡ labels.joined package_name.now name.now) }
 {
     if package_name.is_empty() {
@@ -106,7 +106,7 @@ fn joined(alloc: Global, package_name: &str, name: &str) -> Result<Text, Memory>
 }
 
 // Returns the text of the label of a target.
-fn written(alloc: Global, package_name: &str, name: &str) -> Result<Text, Memory>
+fn absolute_text(alloc: Global, package_name: &str, name: &str) -> Result<Text, Memory>
     ensures { IfOk result
         (λ t. t ≡ labels.label_text (record { package_name = package_name.now; name = name.now })) }
 {
@@ -119,18 +119,18 @@ fn written(alloc: Global, package_name: &str, name: &str) -> Result<Text, Memory
     Text::from_string(alloc, text)
 }
 
-/// Returns the text of the label that `Label::read` gives, always `//P:T`, for callers that want only the text. Returns
+/// Returns the text of the label that `Label::read` gives, always `//P:T`, for callers that need only the text. Returns
 /// `Code15` if the text is no label.
 pub fn label_text(alloc: Global, text: &str, present: &str) -> Result<Text, BadLabel>
     ensures ok { IfOk result
         (λ t. option_map labels.label_text (labels.label_of text.now present.now) ≡ Some t) }
     ensures bad { IsErrOf result BadLabel.Code15 → labels.label_of text.now present.now ≡ None }
 {
-    let (package_name, name) = would_name(text, present);
+    let (package_name, name) = label_of_parts(text, present);
     if !is_target(package_name, name) {
         return Err(BadLabel::Code15);
     }
-    Ok(written(alloc, package_name, name)?)
+    Ok(absolute_text(alloc, package_name, name)?)
 }
 
 /// A label: the name of a target in a package, and of the file at that name.
@@ -156,26 +156,26 @@ impl Model for Label {
 }
 
 impl Label {
-    /// Reads a label in a package: `//P:T`, `//P` (with P nonempty, and T its last segment), `:T` or `T` (in the
-    /// present package). P is a package's name, T a path, and P and T joined are at most 255 bytes. Any other text is
-    /// `Code15`.
+    /// Reads a label in a package. The forms are `//P:T`, `//P` (where P is nonempty, and T is its last segment), and
+    /// `:T` or `T` (in the present package). P is a package's name, T is a path, and P and T joined are at most 255
+    /// bytes. Any other text is `Code15`.
     pub fn read(alloc: Global, text: &str, present: &str) -> Result<Label, BadLabel>
         ensures ok { IfOk result (λ l. labels.label_of text.now present.now ≡ Some l) }
         ensures bad { IsErrOf result BadLabel.Code15 → labels.label_of text.now present.now ≡ None }
     {
-        let (package_name, name) = would_name(text, present);
+        let (package_name, name) = label_of_parts(text, present);
         if !is_target(package_name, name) {
             return Err(BadLabel::Code15);
         }
         Ok(Label {
-            text: written(alloc, package_name, name)?,
+            text: absolute_text(alloc, package_name, name)?,
             package_name: Text::new(alloc, package_name)?,
             name: Text::new(alloc, name)?,
-            file: joined(alloc, package_name, name)?,
+            file: join_parts(alloc, package_name, name)?,
         })
     }
 
-    /// Returns the label's text, always `//P:T`. Read in any package it is this label again.
+    /// Returns the label's text, always `//P:T`. If the text is read in any package, it is this label again.
     pub fn text(&self) -> &Text
         ensures value { result.now ≡ labels.label_text self.now }
         ensures reads_back { (present : List ℕ) → labels.label_of result.now present
@@ -198,7 +198,7 @@ impl Label {
         &self.name
     }
 
-    /// Returns the path of the file: P and T joined.
+    /// Returns the path of the file, which is P and T joined.
     pub fn file(&self) -> &Text
         ensures value { result.now ≡ labels.label_file self.now }
         ensures path { IsTrue (is_path result.now) }
@@ -206,29 +206,29 @@ impl Label {
         &self.file
     }
 
-    /// Returns whether the label is one of a module: T ends in `.bzl`.
+    /// Returns whether the label is one of a module, that is, T ends in `.bzl`.
     pub fn is_module(&self) -> bool
         ensures { result ≡ labels.is_module self.now }
     {
         self.name.as_str().ends_with(".bzl")
     }
 
-    /// Returns the names of the packages that would stand between the label's package and its file. They are each
-    /// proper directory of T joined to P, shortest first. If one is a package, the label crosses a boundary.
+    /// Returns the names of the packages that would be between the label's package and its file. They are the proper
+    /// directories of T, each joined to P, shortest first. If one is a package, the label crosses a boundary.
     pub fn boundaries(&self, alloc: Global) -> Result<Vec<Text>, Memory>
         ensures { IfOk result (λ names. names.items ≡ labels.boundaries self.now) }
     {
         let mut names = Vec::new(alloc);
         let mut rest = self.name.as_str();
         while let Some((directory, _)) = rest.rsplit_once('/') {
-            names.push(joined(alloc, self.package_name.as_str(), directory)?)?;
+            names.push(join_parts(alloc, self.package_name.as_str(), directory)?)?;
             rest = directory;
         }
         names.reverse();
         Ok(names)
     }
 
-    /// Returns the same label, its texts shared.
+    /// Returns the same label, whose texts are shared.
     pub fn share(&self) -> Result<Label, Memory>
         ensures { IfOk result (λ l. l ≡ self.now) }
     {

@@ -1,4 +1,4 @@
-//! Paths of files, package names and labels. Layer: files, on base. Begin at `path.rt`.
+//! Paths of files, package names and labels. Begin at `path.rt`.
 #![tactic(auto)]
 
 mod label;

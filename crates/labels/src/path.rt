@@ -2,9 +2,9 @@
 ghost use Rattle.std.specs.Prelude.{◌≡◌, IsTrue, IfOk, IsErrOf, false};
 ghost use Rattle.labels.specs.Paths as paths;
 
+use base_types::{Memory, Text};
 use std::alloc::Global;
 use std::marker::Model;
-use texts::{Memory, Text};
 use thiserror::Error;
 
 fn is_name_byte(byte: u8) -> bool
@@ -46,7 +46,7 @@ pub enum BadPath {
     /// The text is not a path.
     #[error("not a path")]
     Code2,
-    /// A growth was refused.
+    /// An allocation failed.
     #[error("out of memory")]
     Memory(Memory),
 }
@@ -54,7 +54,7 @@ pub enum BadPath {
 impl From<Memory> for BadPath {
     ghost use Rattle.std.specs.Prelude.{◌≡◌};
     ghost use Rattle.labels.specs.declared.path.BadPath.TheVariants.{Memory};
-    ghost use Rattle.texts.specs.Refusals.{memory};
+    ghost use Rattle.base_types.specs.Refusals.{memory};
 
     ghost from_gives = { λ _ e. e ≡ Memory memory };
 
@@ -81,7 +81,7 @@ impl Model for Path {
 }
 
 impl Path {
-    /// Takes exactly the texts that are paths; another text is `Code2`.
+    /// Makes a path from a text that is one; another text is `Code2`.
     pub fn new(alloc: Global, text: &str) -> Result<Path, BadPath>
         ensures ok { IfOk result (λ p. p ≡ text.now) }
         ensures path { IfOk result (λ p. IsTrue (paths.is_path p)) }

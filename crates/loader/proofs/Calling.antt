@@ -1,10 +1,10 @@
 -- The graph and the requests so far: what one more request does.
 use Rattle.std.proofs.Common.{◌≡◌, ◌⊎◌, inl, inr, ℕ, ◌<◌, ◌≤◌, false, cond, List, [], ◌∷◌, ◌++◌, Option, Some, None, refl, suc, length, sym, ◌∙◌, ap, subst, arith}
-use Rattle.evaluation.specs.Value.{IsUngrounded, leaf as leaf_settles, run as run_settles, is_leaf, has_run, Grounded, HasValue, In, first, after, IsMember, Settles}
-use Rattle.evaluation.specs.Graph.{Record, Differs}
-use Rattle.evaluation.specs.Journal.{RunIsJustified, never_settled, dependency_differs, ReadIsJustified, never_read, edited}
-use Rattle.evaluation.specs.Reachability.{Reached, root, member}
-use Rattle.evaluation.proofs.Touch.{not_true}
+use Rattle.engine_semantics.specs.Value.{IsUngrounded, leaf as leaf_settles, run as run_settles, is_leaf, has_run, Grounded, HasValue, In, first, after, IsMember, Settles}
+use Rattle.engine_semantics.specs.Graph.{Record, Differs}
+use Rattle.engine_semantics.specs.Journal.{RunIsJustified, never_settled, dependency_differs, ReadIsJustified, never_read, edited}
+use Rattle.engine_semantics.specs.Reachability.{Reached, root, member}
+use Rattle.engine_semantics.proofs.Touch.{not_true}
 use Rattle.filetree.specs.Files.{Files}
 use Rattle.functions.specs.Next.{next}
 use Rattle.keys.proofs.LeafReads.{leaf_stays}
@@ -12,10 +12,10 @@ use Rattle.keys.specs.Cycles.{cycle}
 use Rattle.keys.specs.declared.key.Key.{Key}
 use Rattle.keys.specs.declared.value.Value.{Value}
 use Rattle.node.specs.Graphs.{GraphView, record_at, IsTouched, present}
-use Rattle.node.specs.Laws.{IsLawfulFor}
+use Rattle.node.specs.Laws.{IsConsistentFor}
 use Rattle.node.proofs.Lists.{some_is, none_some, true_false}
-use Rattle.open_nodes.specs.Truths.{Past, IsRunOf}
-use Rattle.open_nodes.specs.declared.run.Run.{Run}
+use Rattle.round_nodes.specs.Invariants.{Past, IsRunOf}
+use Rattle.round_nodes.specs.declared.run.Run.{Run}
 use Rattle.round.specs.Call.{IsCall}
 use Rattle.loader.specs.Journal.{Evaluation, leaves, IsSettledBy, IsLastSettled, by_newest, by_earlier, MayRun, first_run, run_again, MayBeRead, first_read, read_again, TakesTurns, IsItemOf, MissesNone, AreInOrder, AreItemsOf}
 use Rattle.loader.specs.GraphLinks.{Stays, IsLinked}
@@ -81,7 +81,7 @@ module _ (files : ℕ → Files) (paths : ℕ → List (List ℕ)) where
     abbrev request : Evaluation
     request = record { version = old.version; roots = roots }
 
-    law : IsLawfulFor next at paths new
+    law : IsConsistentFor next at paths new
     law = call.after.lawful
 
     version : new.version ≡ old.version
@@ -220,7 +220,7 @@ module _ (files : ℕ → Files) (paths : ℕ → List (List ℕ)) where
           | inr n ↦ (n.5, (n.0, n.1, n.3))
         ]
 
-    -- what is no leaf has the turns of its groups
+    -- what is not a leaf has the turns of its groups
     turns_taken : {run : Run} (p : IsRunOf next (at old.version) (past_of old roots) new run)
         → (Grounded next (at old.version) run.key p.of_key.value × (run.turns ≡ suc (length p.of_key.groups))) ⊎ (IsUngrounded next (at old.version) run.key × (run.turns ≡ length p.of_key.groups)) → TakesTurns files paths old.version run
     turns_taken {run = run} p number = record {

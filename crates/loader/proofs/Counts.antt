@@ -1,7 +1,7 @@
 -- How many turns hands have made.
 use Rattle.std.proofs.Common.{◌≡◌, ◌+◌, List, [], ◌∷◌, ◌++◌, arith}
-use Rattle.open_nodes.specs.TurnCounts.{turns_of}
-use Rattle.open_nodes.specs.declared.run.Run.{Run}
+use Rattle.round_nodes.specs.TurnCounts.{turns_of}
+use Rattle.round_nodes.specs.declared.run.Run.{Run}
 
 pub turns_append : (runs more : List Run) → turns_of (runs ++ more) ≡ turns_of runs + turns_of more
 turns_append [] more = omega arith

@@ -1,10 +1,10 @@
 -- The recorded groups of a settled key are those that it asks.
 use Rattle.std.proofs.Common.{None, ◌≡◌, ◌<◌, length, arith, List, [], ◌∷◌, Option, refl, sym, subst}
-use Rattle.evaluation.specs.Reply.{Reply, Ask}
-use Rattle.evaluation.specs.Value.{Turns, ends, asks, Grounded, AllGrounded, none, one, IsUngrounded, First, at_head, further, Stops, here, later, Settles, leaf, run, closed, In, first, after}
-use Rattle.evaluation.specs.Choices as choices
-use Rattle.evaluation.specs.Reachability.{AsksGroup}
-use Rattle.evaluation.proofs.Unique.{same_values}
+use Rattle.engine_semantics.specs.Reply.{Reply, Ask}
+use Rattle.engine_semantics.specs.Value.{Turns, ends, asks, Grounded, AllGrounded, none, one, IsUngrounded, First, at_head, further, Stops, here, later, Settles, leaf, run, closed, In, first, after}
+use Rattle.engine_semantics.specs.Choices as choices
+use Rattle.engine_semantics.specs.Reachability.{AsksGroup}
+use Rattle.engine_semantics.proofs.Unique.{same_values}
 
 module _ {K V : Type 0} (next : K → List V → Reply K V) (cycle : List K → V) (read : K → Option V) where
   no_first : {ks ls : List K} {vs : List V} {j : K} → AllGrounded next read ks vs → First next read (IsUngrounded next read) ls j → ks ≡ ls → ⊥

@@ -1,8 +1,8 @@
--- What is held of a key stays equal, or its record tells that it has changed.
+-- The known value of a key stays equal, or its record tells that it has changed.
 use Rattle.std.proofs.Common.{◌≡◌, ◌⊎◌, inl, inr, ℕ, ◌+◌, ◌<◌, ◌≤◌, Bool, true, false, cond, List, ◌∷◌, [], length, Option, Some, None, refl, sym, ◌∙◌, ap, subst, arith, length-append}
 use Rattle.std.specs.Prelude.{Ok, is_some, nat_lt, if◌then◌else◌}
 use Rattle.std.specs.Option.{option_map}
-use Rattle.evaluation.specs.Graph.{Record, Marks}
+use Rattle.engine_semantics.specs.Graph.{Record, MarksDirty}
 use Rattle.filetree.specs.Files.{Files}
 use Rattle.functions.specs.Next.{next}
 use Rattle.keys.specs.Leaves.{read}
@@ -11,20 +11,21 @@ use Rattle.keys.specs.declared.key.Key.TheVariants as key
 use Rattle.keys.specs.declared.value.Value.{Value}
 use Rattle.node.specs.Graphs.{GraphView, record_at, present}
 use Rattle.node.proofs.Lists.{some_is, none_some, true_false}
-use Rattle.open_nodes.specs.declared.run.Run.{Run}
-use Rattle.open_nodes.proofs.Wholes.{unsettled_not_clean}
-use Rattle.open_nodes.specs.Truths.{Past, IsSince}
+use Rattle.round_nodes.specs.declared.run.Run.{Run}
+use Rattle.round_nodes.proofs.Wholes.{unsettled_not_clean}
+use Rattle.round_nodes.specs.Invariants.{Past, IsSince}
 use Rattle.round.specs.Call.{Calls, IsCall}
 use Rattle.loader.specs.State.{Edit}
 use Rattle.loader.specs.Journal.{Evaluation}
-use Rattle.loader.specs.Effects.{Effect, nothing, edited, asked, Evaluates, Moves}
+use Rattle.loader.specs.Effects.{Effect, nothing, edited, asked, Evaluates, Performs}
 use Rattle.loader.specs.Holding.{held_package, is_held, is_later, changed_at, has_changed}
 use Rattle.loader.specs.HoldingLaws.{LeadsTo, stays, moves, UnchangedIsEqual}
-use Rattle.loader.specs.Sessions.{SessionView, IsLawful}
+use Rattle.loader.specs.Sessions.{SessionView, IsConsistent}
 use Rattle.loader.proofs.Calling.{past_of}
 use Rattle.loader.proofs.Histories.{last_files, history_from, files_from, paths_from}
 
--- the record of a key that was held with a value at version n: it is held so still, or it is later now, and the value is equal or changed after n
+-- the record of a key that had a known value at version n: the value is still known, or the record is later now, and
+-- the value is equal or changed after n
 abbrev Keeps : ℕ → Value → GraphView → Key → Type 0
 Keeps n v graph k = (r : Record Key Value) × (record_at graph k ≡ Some r)
     × (((r.dirty ≡ false) × (r.value ≡ v) × (n ≤ graph.version)) ⊎ ((n < graph.version) × ((r.value ≡ v) ⊎ (n < r.changed_at))))
@@ -39,7 +40,7 @@ held_record (Some r) v e = by r.dirty refl
 
 module _ (n : ℕ) (v : Value) (k : Key) where
   -- over an edit
-  keep_edit : (a c : SessionView) (edit : Edit) → IsLawful a → IsLawful c → (runs : List Run) → Moves (edited edit) a c runs → Keeps n v a.graph k → Keeps n v c.graph k
+  keep_edit : (a c : SessionView) (edit : Edit) → IsConsistent a → IsConsistent c → (runs : List Run) → Performs (edited edit) a c runs → Keeps n v a.graph k → Keeps n v c.graph k
   keep_edit a c edit law_a law_c runs m (r, e, o) = let x = m.3.kept k r e in (record r { dirty = x.0 }, x.1, go o)
     where
       later : c.graph.version ≡ a.graph.version + 1
@@ -51,7 +52,7 @@ module _ (n : ℕ) (v : Value) (k : Key) where
       go (inr x) = inr (omega (arith, later, x.0), x.1)
 
   -- over an evaluation
-  keep_call : (a c : SessionView) (request : Evaluation) → IsLawful a → (runs : List Run) → Evaluates request a c runs → Keeps n v a.graph k → Keeps n v c.graph k
+  keep_call : (a c : SessionView) (request : Evaluation) → IsConsistent a → (runs : List Run) → Evaluates request a c runs → Keeps n v a.graph k → Keeps n v c.graph k
   keep_call a c request law runs e (r, f, o) = go o (call.after.since k)
     where
       files : ℕ → Files
@@ -85,7 +86,7 @@ module _ (n : ℕ) (v : Value) (k : Key) where
       go (inr x) (inr e) = (e.0, e.1, inr (omega (arith, version, x.0), step e.0 e.1 x.0 x.1))
 
   -- over what an effect makes of a session
-  keep_move : (a c : SessionView) (effect : Effect) (runs : List Run) → IsLawful a → IsLawful c → Moves effect a c runs → Keeps n v a.graph k → Keeps n v c.graph k
+  keep_move : (a c : SessionView) (effect : Effect) (runs : List Run) → IsConsistent a → IsConsistent c → Performs effect a c runs → Keeps n v a.graph k → Keeps n v c.graph k
   keep_move a c nothing runs law_a law_c m x = subst (λ (s : SessionView). Keeps n v s.graph k) (sym m.0) x
   keep_move a c (edited edit) runs law_a law_c m x = keep_edit a c edit law_a law_c runs m x
   keep_move a c (asked request None) runs law_a law_c m x = keep_call a c request law_a runs m x
@@ -99,7 +100,7 @@ module _ (n : ℕ) (v : Value) (k : Key) where
 is_sooner : (a b : ℕ) → a < b → nat_lt a b ≡ true
 is_sooner a b h = grind (arith, h)
 
--- what is held then, where no change is told
+-- the known value then, where no change is reported
 held_still : (n version : ℕ) (v : Value) (graph : GraphView) (name : List ℕ) → version ≤ n → Keeps n v graph (key.Package name) → is_held graph (key.Package name) ≡ true → has_changed graph version (key.Package name) ≡ false → held_package graph name ≡ Some v
 held_still n version v graph name within (r, e, o) held unchanged = by r.dirty refl
   where

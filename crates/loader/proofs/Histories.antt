@@ -8,8 +8,8 @@ use Rattle.keys.proofs.LeafReads.{leaf_stays, changes_read}
 use Rattle.keys.specs.declared.key.Key.{Key}
 use Rattle.node.specs.Graphs.{GraphView, IsTouched}
 use Rattle.node.specs.Laws.{TouchKeepsLawful}
-use Rattle.loader.specs.State.{Edit, changes_of, changed_files, changed}
-use Rattle.loader.specs.Sessions.{SessionView, files_after, files_of, state_of, paths_of, Follows, IsHistory, IsLawful, files_at, paths_at}
+use Rattle.loader.specs.State.{Edit, changes_of, changed_files, state_after_edit}
+use Rattle.loader.specs.Sessions.{SessionView, files_after, files_of, state_of, paths_of, Follows, IsHistory, IsConsistent, files_at, paths_at}
 
 -- one more edit
 pub after_more : (files : Files) (edits : List Edit) (edit : Edit) → files_after files (edits ++ edit ∷ []) ≡ changed_files edit (files_after files edits)
@@ -35,9 +35,9 @@ module _ (files : ℕ → Files) (paths : ℕ → List (List ℕ)) where
 pub edit_reads : (files : Files) (edit : Edit) (k : Key) → (IsTouched (paths_of edit) k → ⊥) → read (changed_files edit files) k ≡ read files k
 edit_reads files edit k n = changes_read files (changes_of edit) k n
 
--- one more edit leaves a session lawful
-pub lawful_after : (began : ℕ) (edits : List Edit) (old new : GraphView) (edit : Edit) → IsLawful (record { began = began; edits = edits; graph = old }) → new.version ≡ old.version + 1 → TouchKeepsLawful old new (paths_of edit)
-    → IsLawful (record { began = began; edits = edits ++ edit ∷ []; graph = new })
+-- one more edit leaves a session consistent
+pub lawful_after : (began : ℕ) (edits : List Edit) (old new : GraphView) (edit : Edit) → IsConsistent (record { began = began; edits = edits; graph = old }) → new.version ≡ old.version + 1 → TouchKeepsLawful old new (paths_of edit)
+    → IsConsistent (record { began = began; edits = edits ++ edit ∷ []; graph = new })
 lawful_after began edits old new edit law v touch = record {
   version = omega (arith, v, law.version, length-append edits (edit ∷ []));
   lawful = λ files paths h.
@@ -50,14 +50,14 @@ lawful_after began edits old new edit law v touch = record {
 
 -- a session that has accepted one more edit
 module _ (h : SessionView) (new : GraphView) (edits : List Edit) (edit : Edit) (is : edits ≡ h.edits ++ edit ∷ []) (version : new.version ≡ h.graph.version + 1) where
-  pub accepted : (tree : Files) → tree ≡ changed_files edit (files_of h) → IsLawful h → TouchKeepsLawful h.graph new (paths_of edit)
-      → (tree ≡ files_of (record { began = h.began; edits = edits; graph = new })) × IsLawful (record { began = h.began; edits = edits; graph = new })
+  pub accepted : (tree : Files) → tree ≡ changed_files edit (files_of h) → IsConsistent h → TouchKeepsLawful h.graph new (paths_of edit)
+      → (tree ≡ files_of (record { began = h.began; edits = edits; graph = new })) × IsConsistent (record { began = h.began; edits = edits; graph = new })
   accepted tree t law touch = (
     t ∙ sym (after_more map_of.empty h.edits edit) ∙ ap (files_after map_of.empty) (sym is),
-    subst (λ (es : List Edit). IsLawful (record { began = h.began; edits = es; graph = new })) (sym is) (lawful_after h.began h.edits h.graph new edit law version touch),
+    subst (λ (es : List Edit). IsConsistent (record { began = h.began; edits = es; graph = new })) (sym is) (lawful_after h.began h.edits h.graph new edit law version touch),
   )
 
-  pub accepted_state : state_of (record { began = h.began; edits = edits; graph = new }) ≡ changed edit (state_of h)
+  pub accepted_state : state_of (record { began = h.began; edits = edits; graph = new }) ≡ state_after_edit edit (state_of h)
   accepted_state =
       let f : files_after map_of.empty edits ≡ changed_files edit (files_of h) = ap (files_after map_of.empty) is ∙ after_more map_of.empty h.edits edit in
       λ i. record { files = f i; version = version i }

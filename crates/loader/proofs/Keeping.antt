@@ -7,20 +7,20 @@ use Rattle.functions.specs.Next.{next}
 use Rattle.keys.specs.Leaves.{read}
 use Rattle.std.specs.Map.{lookup}
 use Rattle.std.specs.BTreeMap.{is_at}
-use Rattle.evaluation.specs.Graph.{Record}
+use Rattle.engine_semantics.specs.Graph.{Record}
 use Rattle.keys.specs.Keys.{key_cmp}
 use Rattle.keys.specs.declared.key.Key.{Key}
 use Rattle.keys.specs.declared.value.Value.{Value}
 use Rattle.node.proofs.Lists.{none_some}
 use Rattle.node.specs.Graphs.{GraphView, record_at}
-use Rattle.open_nodes.specs.TurnCounts.{turns_of}
-use Rattle.open_nodes.specs.declared.run.Run.{Run}
+use Rattle.round_nodes.specs.TurnCounts.{turns_of}
+use Rattle.round_nodes.specs.declared.run.Run.{Run}
 use Rattle.round.specs.Call.{Calls}
 use Rattle.loader.specs.State.{State, start, Edit}
-use Rattle.loader.specs.Sessions.{SessionView, IsHistory, IsLawful, state_of, paths_of, files_at, paths_at}
+use Rattle.loader.specs.Sessions.{SessionView, IsHistory, IsConsistent, state_of, paths_of, files_at, paths_at}
 use Rattle.loader.specs.Answers.{line_state, state_after}
 use Rattle.loader.specs.Journal.{Evaluation}
-use Rattle.loader.specs.Effects.{Effect, nothing, edited, asked, line_effect, effects, edits_in, and_later, requests_in, Evaluates, EvaluatesEach, Moves}
+use Rattle.loader.specs.Effects.{Effect, nothing, edited, asked, line_effect, effects, edits_in, and_later, requests_in, Evaluates, EvaluatesEach, Performs}
 use Rattle.loader.specs.GraphLinks.{IsToldBy}
 use Rattle.loader.specs.LineJournal.{IsKept, IsJournalOf}
 use Rattle.loader.proofs.Histories.{history_before, history_of, last_files}
@@ -47,7 +47,7 @@ requests_more (asked request later ∷ es) e = ap (λ r. and_later request later
 
 module _ {budget : ℕ} (files : ℕ → Files) (paths : ℕ → List (List ℕ)) where
   -- one more of a request
-  one_more : (a b : SessionView) → IsLawful a → a.began ≡ 0 → IsHistory files paths 0 a.edits → (request : Evaluation) (own : List Run) → Evaluates request a b own
+  one_more : (a b : SessionView) → IsConsistent a → a.began ≡ 0 → IsHistory files paths 0 a.edits → (request : Evaluation) (own : List Run) → Evaluates request a b own
       → (requests : List (List Evaluation)) (runs : List Run) (begun : List Evaluation) (before : List Run) → IsBegun files paths budget a.graph requests runs begun before
       → IsBegun files paths budget b.graph requests runs (begun ++ request ∷ []) (before ++ own)
   one_more a b law began history request own e requests runs begun before t =
@@ -59,7 +59,7 @@ module _ {budget : ℕ} (files : ℕ → Files) (paths : ℕ → List (List ℕ)
       (begun_call files paths budget a.graph b.graph request.roots requests runs begun before own t call)
 
   -- all of a request: one, or two
-  each_more : (a b : SessionView) → IsLawful a → a.began ≡ 0 → IsHistory files paths 0 a.edits → (request : Evaluation) (later : Option Evaluation) (own : List Run) → EvaluatesEach request later a b own → turns_of own ≤ budget
+  each_more : (a b : SessionView) → IsConsistent a → a.began ≡ 0 → IsHistory files paths 0 a.edits → (request : Evaluation) (later : Option Evaluation) (own : List Run) → EvaluatesEach request later a b own → turns_of own ≤ budget
       → (requests : List (List Evaluation)) (runs : List Run) → IsToldBy files paths budget a.graph requests runs → IsToldBy files paths budget b.graph (requests ++ and_later request later ∷ []) (runs ++ own)
   each_more a b law began history request None own e within requests runs t =
       ends files paths budget b.graph requests runs (request ∷ []) own (one_more a b law began history request own e requests runs [] [] (begins files paths budget a.graph requests runs t)) within
@@ -74,14 +74,14 @@ each_began : (a b : SessionView) (own : List Run) (request : Evaluation) (later 
 each_began a b own request None e = (e.0, e.1)
 each_began a b own request (Some later) (mid, front, rest, lawful, is, e, f) = (f.0 ∙ e.0, f.1 ∙ e.1)
 
-module _ (budget : ℕ) (h h' : SessionView) (lines : List (List ℕ)) (runs own : List Run) (line : List ℕ) (kept : IsKept budget h lines runs) (law : IsLawful h') (within : turns_of own ≤ budget) where
+module _ (budget : ℕ) (h h' : SessionView) (lines : List (List ℕ)) (runs own : List Run) (line : List ℕ) (kept : IsKept budget h lines runs) (law : IsConsistent h') (within : turns_of own ≤ budget) where
   abbrev so_far : List Effect
   so_far = effects start lines
 
   abbrev all : List Effect
   all = effects start (lines ++ line ∷ [])
 
-  by_effect : (e : Effect) → line_effect line (state_after start lines) ≡ e → Moves e h h' own → IsKept budget h' (lines ++ line ∷ []) (runs ++ own)
+  by_effect : (e : Effect) → line_effect line (state_after start lines) ≡ e → Performs e h h' own → IsKept budget h' (lines ++ line ∷ []) (runs ++ own)
   by_effect nothing q m = record {
     lawful = law;
     began = ap (λ (x : SessionView). x.began) m.0 ∙ kept.began;
@@ -143,7 +143,7 @@ module _ (budget : ℕ) (h h' : SessionView) (lines : List (List ℕ)) (runs own
       rs = ap requests_in split ∙ requests_more so_far (asked request later)
 
   -- one more line
-  pub kept_line : state_of h ≡ state_after start lines → Moves (line_effect line (state_of h)) h h' own → IsKept budget h' (lines ++ line ∷ []) (runs ++ own)
+  pub kept_line : state_of h ≡ state_after start lines → Performs (line_effect line (state_of h)) h h' own → IsKept budget h' (lines ++ line ∷ []) (runs ++ own)
   kept_line s m = by_effect (line_effect line (state_of h)) (ap (line_effect line) (sym s)) m
 
 -- the journal of all lines
@@ -153,7 +153,7 @@ kept_journal budget h lines runs kept =
     (subst (λ (x : List Edit). IsHistory (files_at (edits_in (effects start lines))) (paths_at (edits_in (effects start lines))) 0 x) (sym kept.edits) (history_of (edits_in (effects start lines))))).journal
 
 -- no line yet
-pub kept_at_start : (budget : ℕ) (h : SessionView) → IsLawful h → h.began ≡ 0 → h.edits ≡ [] → h.graph.records ≡ [] → IsKept budget h [] []
+pub kept_at_start : (budget : ℕ) (h : SessionView) → IsConsistent h → h.began ≡ 0 → h.edits ≡ [] → h.graph.records ≡ [] → IsKept budget h [] []
 kept_at_start budget h law began edits records = record {
   lawful = law;
   began = began;

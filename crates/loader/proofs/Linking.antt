@@ -1,9 +1,9 @@
 -- The graph and the requests so far: what stays true over an edit.
 use Rattle.std.proofs.Common.{◌≡◌, ◌⊎◌, inl, inr, ℕ, ◌+◌, ◌≤◌, Bool, false, List, Option, Some, None, refl, sym, ◌∙◌, ap, subst, arith}
-use Rattle.evaluation.specs.Value.{HasValue, IsMember, Settles}
-use Rattle.evaluation.specs.Graph.{Record, Marks}
-use Rattle.evaluation.proofs.Plain.{one_value}
-use Rattle.evaluation.proofs.Touch.{not_true}
+use Rattle.engine_semantics.specs.Value.{HasValue, IsMember, Settles}
+use Rattle.engine_semantics.specs.Graph.{Record, MarksDirty}
+use Rattle.engine_semantics.proofs.Plain.{one_value}
+use Rattle.engine_semantics.proofs.Touch.{not_true}
 use Rattle.filetree.specs.Files.{Files}
 use Rattle.functions.specs.Next.{next}
 use Rattle.keys.specs.Leaves.{read}
@@ -14,7 +14,7 @@ use Rattle.keys.specs.declared.key.Key.TheVariants as key
 use Rattle.keys.specs.declared.value.Value.{Value}
 use Rattle.keys.proofs.CycleLaws.{turned}
 use Rattle.node.specs.Graphs.{GraphView, record_at, IsTouched}
-use Rattle.node.specs.Laws.{IsLawfulFor}
+use Rattle.node.specs.Laws.{IsConsistentFor}
 use Rattle.node.proofs.Lists.{some_is, none_some, true_false}
 use Rattle.loader.specs.Journal.{Evaluation, leaves}
 use Rattle.loader.specs.GraphLinks.{Stays, IsLinked}
@@ -43,7 +43,7 @@ module _ (files : ℕ → Files) (paths : ℕ → List (List ℕ)) where
     untouched = λ x f w lo hi t. true_false (linked.lawful.leaf_clean k r x e f w lo hi t) d;
   }
 
-  module _ (old new : GraphView) (edited : List (List ℕ)) (version : new.version ≡ old.version + 1) (marks : Marks (record_at old) (record_at new) (IsTouched edited)) (law : IsLawfulFor next at paths new) where
+  module _ (old new : GraphView) (edited : List (List ℕ)) (version : new.version ≡ old.version + 1) (marks : MarksDirty (record_at old) (record_at new) (IsTouched edited)) (law : IsConsistentFor next at paths new) where
     -- what a record was
     origin : (k : Key) (m : Record Key Value) → record_at new k ≡ Some m → (r : Record Key Value) × (record_at old k ≡ Some r) × (d : Bool) × (m ≡ record r { dirty = d })
     origin k m e = go (record_at old k) refl
@@ -85,7 +85,7 @@ module _ (files : ℕ → Files) (paths : ℕ → List (List ℕ)) where
             subst (λ (x : Record Key Value). Settles next (at w) cycle k x.groups x.value) (sym o.3) (linked.clean k o.0 o.1 c w (omega (arith, a, lo)) hi)
         still k m e d w lo (inr h) = subst (λ (u : ℕ). Settles next (at u) cycle k m.groups m.value) (sym h) ((law.each k m e).clean d)
 
--- what is read is no cycle
+-- what is read is not a cycle
 pub read_plain : (files : Files) (k : Key) (v : Value) → read files k ≡ Some v → NoCycle v
 read_plain files (key.File path) v e = plain e tt
   where

@@ -2,12 +2,12 @@
 use Rattle.std.proofs.Common.{◌≡◌, ℕ, List, false, None, Some, is_some, refl, ap, sym, subst}
 use Rattle.std.specs.Prelude.{Option}
 use Rattle.filetree.specs.Files.{Files}
-use Rattle.commands.specs.Commands.{load}
-use Rattle.commands.specs.Refusals.{request_refusal}
-use Rattle.open_nodes.specs.declared.run.Run.{Run}
+use Rattle.loader_commands.specs.Commands.{load}
+use Rattle.loader_commands.specs.Refusals.{request_refusal}
+use Rattle.round_nodes.specs.declared.run.Run.{Run}
 use Rattle.shelf.specs.declared.publish.Publish.{Publish}
 use Rattle.shelf.specs.Lists.{then_published}
-use Rattle.loader.specs.Effects.{Moves, StopsAfter, evaluations, unless_refused, request_effect, request_roots}
+use Rattle.loader.specs.Effects.{Performs, StopsAfter, evaluations, unless_refused, request_effect, request_roots}
 use Rattle.loader.specs.Sessions.{SessionView}
 use Rattle.loader.specs.State.{State}
 use Rattle.loader.specs.Publishing.{Entries, AreEntries, Publishes, names_unless, names_to_publish}
@@ -23,8 +23,8 @@ module _ (names : List (List ℕ)) (accepted : request_refusal (load names) ≡ 
   pub published_so : (files : Files) (version : ℕ) (old new : List Publish) (entries : Entries) → AreEntries files names entries → new ≡ then_published old version entries → Publishes files version (names_to_publish (load names)) old new
   published_so files version old new entries are is = subst (λ ns. Publishes files version ns old new) (sym names_are) (entries, are, is)
 
-  pub stopped_so : (old new : SessionView) (runs : List Run) (s : State) → Moves (request_effect (load names) s) old new runs → StopsAfter (request_roots (load names)) old new
+  pub stopped_so : (old new : SessionView) (runs : List Run) (s : State) → Performs (request_effect (load names) s) old new runs → StopsAfter (request_roots (load names)) old new
   stopped_so old new runs s moves =
       let effect = evaluations (load names) s in
-      let moved : Moves effect old new runs = subst (λ n. Moves (unless_refused n effect) old new runs) accepted moves in
+      let moved : Performs effect old new runs = subst (λ n. Performs (unless_refused n effect) old new runs) accepted moves in
       λ past at of law. (moved.3 past (record { at_entry = at; of_roots = of; lawful = law })).after

@@ -2,7 +2,7 @@
 use Rattle.std.proofs.Common.{◌≡◌, ◌≢◌, ◌⊎◌, inl, inr, ℕ, Bool, true, false, ◌&&◌, ◌||◌, cond, List, [], ◌∷◌, ◌++◌, fold, refl, ap, sym, subst, ◌∙◌, arith, nat_eq}
 use Rattle.std.proofs.lemmas.Bool.Decides.{nat_tests}
 use Rattle.std.specs.List.{AllByRecursion}
-use Rattle.evaluation.specs.Value.{In, first, after, AllDiffer}
+use Rattle.engine_semantics.specs.Value.{In, first, after, AllDiffer}
 use Rattle.shelf.specs.Lists.{same_text}
 use Rattle.loader.specs.Publishing.{has_name, AreEach, and_name, each_of}
 
@@ -102,7 +102,7 @@ differs seen name d = go (has_name name seen) refl
     go true e = d
     go false e = differ_more name seen d (λ x i same. let wrong : true ≡ false = sym (has_in name seen (subst (λ n. In n seen) same i)) ∙ e in absurd (cc wrong))
 
--- names behind others
+-- names after others
 all_keep : (names seen : List (List ℕ)) (x : List ℕ) → In x seen → In x (fold and_name seen names)
 all_keep [] seen x i = i
 all_keep (n ∷ ns) seen x i = all_keep ns (and_name seen n) x (keeps seen n x i)

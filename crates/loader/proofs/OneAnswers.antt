@@ -1,17 +1,17 @@
--- The answers are a function of the lines.
+-- The replies are a function of the lines.
 use Rattle.std.proofs.Common.{◌≡◌, ◌∙◌, ap, sym, subst, refl, ◌⊎◌, inl, inr, ℕ, ◌<◌, List, [], ◌∷◌, ◌++◌, Bool, true, false, append_assoc}
 use Rattle.std.specs.Prelude.{Option, Some, None, option_and_then}
 use Rattle.std.proofs.lemmas.List.{append-nil, append_cancel_left}
-use Rattle.lines.specs.Lines.{lines_of, IsWhole, is_too_long}
-use Rattle.lines.proofs.Cuts.{whole_append}
+use Rattle.base_lines.specs.Lines.{lines_of, IsWhole, is_too_long}
+use Rattle.base_lines.proofs.Cuts.{whole_append}
 use Rattle.filetree.specs.Files.{Files}
 use Rattle.labels.specs.Labels.{Target}
-use Rattle.walks.specs.Below.{packages_below}
+use Rattle.functions_directories.specs.Below.{packages_below}
 use Rattle.functions.proofs.Uniqueness.{one_module_held, one_package_held}
-use Rattle.answers.specs.Answers.{packages_data}
+use Rattle.loader_replies.specs.Answers.{packages_data}
 use Rattle.serde_json.specs.Data.{Data}
-use Rattle.commands.specs.Commands.{Command, change, ask, Request, find, load, module_of, under, data_of, command_of}
-use Rattle.commands.specs.Refusals.{request_refusal, module_label}
+use Rattle.loader_commands.specs.Commands.{Command, change, ask, Request, find, load, module_of, under, data_of, command_of}
+use Rattle.loader_commands.specs.Refusals.{request_refusal, module_label}
 use Rattle.loader.specs.State.{State, start}
 use Rattle.loader.specs.Answers.{package_shown, module_shown, IsPackageShown, ArePackagesShown, IsModuleShown, IsValueOf, IsUnlessRefused, IsAnswerTo, IsAnswerIf, IsAnswerOf, AreAnswers, line_state, state_after, answer_text, texts}
 use Rattle.loader.specs.Service.{IsBeginning, IsPart, Stopped, nothing, of_next}
@@ -73,7 +73,7 @@ one_output budget budget' input told told' written written' held held' runs runs
     let one = one_answer_each start (lines_of b.input) a.answers b.answers (subst (λ (x : List ℕ). AreAnswers start (lines_of x) a.answers) same a.are) b.are in
     append_cancel_left held written (texts a.answers) a.held_is ∙ ap texts one ∙ sym (append_cancel_left held' written' (texts b.answers) b.held_is)
 
--- the answers to further lines begin with those to the first ones
+-- the replies to further lines begin with those to the first ones
 begin_part : (s : State) (left more : List (List ℕ)) (part : List ℕ) (ds : List Data) → IsPart left s part → AreAnswers s (left ++ more) ds → IsBeginning part (texts ds)
 begin_part s left more part ds nothing are = (texts ds, refl)
 begin_part s left more part [] (of_next d is begins) are = absurd are
@@ -101,7 +101,8 @@ lines_begin input beyond more (inr e) = ([], ap (λ r. lines_of (input ++ r)) e 
 begin_by : {front all front' all' : List ℕ} → front ≡ front' → all ≡ all' → IsBeginning front' all' → IsBeginning front all
 begin_by e f begins = (begins.0, f ∙ begins.1 ∙ ap (λ r. r ++ begins.0) (sym e))
 
--- what a serving that stopped wrote is a beginning of the answers to any longer input, or to its own where the device had told its end
+-- what a serving that stopped wrote is a beginning of the replies to any longer input, or to its own where the device
+-- had reported its end
 pub stop_begins : (ends ends' : ℕ) (input more told written held : List ℕ) → (ends < ends' → more ≡ []) → Stopped ends ends' told (told ++ input) held (held ++ written)
     → (answers : List Data) → AreAnswers start (lines_of (input ++ more)) answers → IsBeginning written (texts answers)
 stop_begins ends ends' input more told written held only a answers are =

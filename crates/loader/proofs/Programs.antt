@@ -2,8 +2,8 @@
 use Rattle.std.proofs.Common.{◌≡◌, ◌∙◌, ap, sym, subst, refl, ℕ, ◌<◌, List, [], ◌++◌, Some, None, IfSome, OnSome, append-nil}
 use Rattle.std.specs.Prelude.{Option}
 use Rattle.std.specs.Io.KnownBytes.{Appends, Consumes, IsAtEnd, Keeps}
-use Rattle.lines.specs.Devices.{EndsWithNothing}
-use Rattle.lines.specs.Lines.{lines_of}
+use Rattle.base_lines.specs.Devices.{EndsWithNothing}
+use Rattle.base_lines.specs.Lines.{lines_of}
 use Rattle.loader.specs.State.{start}
 use Rattle.loader.specs.Service.{Stopped}
 use Rattle.loader.specs.Programs.{AnswersPart}
@@ -17,7 +17,7 @@ rest_told n None left told consumed ended = ([], tt, tt, λ e. refl)
 rest_told n (Some xs) None told consumed ended = absurd consumed
 rest_told n (Some xs) (Some ys) told consumed ended = (ys, consumed, (told, ys, refl, refl), ended)
 
--- a writer holds what it held and then what was written
+-- a writer has what it had, followed by what was written
 all_written : (held holds : Option (List ℕ)) (written : List ℕ) → Appends held holds written → IfSome held (λ bytes. holds ≡ Some (bytes ++ written))
 all_written None holds written appended = tt
 all_written (Some xs) None written appended = absurd appended

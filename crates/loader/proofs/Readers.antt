@@ -1,9 +1,9 @@
 -- What readers find of what was published.
 use Rattle.std.proofs.Common.{◌≡◌, inl, inr, ℕ, Bool, true, false, cond, List, [], ◌∷◌, None, Some, refl, ap, sym, subst, ◌∙◌}
 use Rattle.std.specs.Prelude.{Option}
-use Rattle.evaluation.specs.Value.{In, first, after}
+use Rattle.engine_semantics.specs.Value.{In, first, after}
 use Rattle.shelf.specs.declared.publish.Publish.{Publish}
-use Rattle.shelf.specs.Lists.{same_text, or_else, published, entry, then_published}
+use Rattle.shelf.specs.Lists.{same_text, or_else, last_text, entry, then_published}
 use Rattle.shelf.proofs.Texts.{each_name_has_its_text}
 use Rattle.loader.specs.Answers.{IsPackageShown, Tells}
 use Rattle.loader.specs.Publishing.{has_name}
@@ -36,10 +36,10 @@ publish_tells files version names old new before (entries, (each, text, are, tel
     ]
 
 -- what a publish has for a name is one of its entries
-entry_of : (version : ℕ) (entries : List (List ℕ × List ℕ)) (name : List ℕ) (v : ℕ) (text : List ℕ) → published version entries name ≡ Some (v, text)
+entry_of : (version : ℕ) (entries : List (List ℕ × List ℕ)) (name : List ℕ) (v : ℕ) (text : List ℕ) → last_text version entries name ≡ Some (v, text)
     → (v ≡ version) × In (name, text) entries
 entry_of version [] name v text e = absurd (cc e)
-entry_of version (x ∷ xs) name v text e = go (published version xs name) (λ f. entry_of version xs name v text f) (same_text x.0 name) refl e
+entry_of version (x ∷ xs) name v text e = go (last_text version xs name) (λ f. entry_of version xs name v text f) (same_text x.0 name) refl e
   where
     go : (o : Option (ℕ × List ℕ)) → (o ≡ Some (v, text) → (v ≡ version) × In (name, text) xs) → (b : Bool) → same_text x.0 name ≡ b
         → or_else o (cond b (Some (version, x.1)) None) ≡ Some (v, text) → (v ≡ version) × In (name, text) (x ∷ xs)
@@ -58,7 +58,7 @@ found_in [] name v text e = absurd (cc e)
 found_in (p ∷ ps) name v text e = go (entry ps name) (λ f. found_in ps name v text f) e
   where
     go : (o : Option (ℕ × List ℕ)) → (o ≡ Some (v, text) → (q : Publish) × In q ps × (v ≡ q.version) × In (name, text) q.entries)
-        → or_else o (published p.version p.entries name) ≡ Some (v, text) → (q : Publish) × In q (p ∷ ps) × (v ≡ q.version) × In (name, text) q.entries
+        → or_else o (last_text p.version p.entries name) ≡ Some (v, text) → (q : Publish) × In q (p ∷ ps) × (v ≡ q.version) × In (name, text) q.entries
     go (Some y) later e = let r = later e in (r.0, after r.1, r.2, r.3)
     go None later e = let r = entry_of p.version p.entries name v text e in (p, first, r.0, r.1)
 

@@ -1,6 +1,6 @@
 -- Node functions whose turns are those of the language.
 use Rattle.std.proofs.Common.{◌≡◌, List}
-use Rattle.evaluation.specs.Reply.{Reply}
+use Rattle.engine_semantics.specs.Reply.{Reply}
 use Rattle.keys.specs.declared.key.Key.{Key}
 use Rattle.keys.specs.declared.value.Value.{Value}
 

@@ -2,13 +2,13 @@
 use Rattle.std.proofs.Common.{◌≡◌, inl, inr, ◌∙◌, ap, sym, subst, ℕ, zero, suc, ◌<◌, ◌≤◌, List, [], ◌∷◌, ◌++◌, length, take, drop, Bool, true, false, not, ◌&&◌, refl, arith, rules, tests, append_assoc}
 use Rattle.std.specs.Prelude.{Result, Ok, Err, OnErr, ◌==◌, Option, Some, None, option_and_then, if◌then◌else◌}
 use Rattle.std.proofs.lemmas.List.{append-nil, take-append-drop}
-use Rattle.lines.specs.Lines.{lines_of, Took}
-use Rattle.lines.proofs.Cuts.{lines_of_one, lines_of_break, whole_append, whole_break, empty_of}
-use Rattle.open_nodes.specs.TurnCounts.{turns_of}
-use Rattle.open_nodes.specs.declared.run.Run.{Run}
+use Rattle.base_lines.specs.Lines.{lines_of, Took}
+use Rattle.base_lines.proofs.Cuts.{lines_of_one, lines_of_break, whole_append, whole_break, empty_of}
+use Rattle.round_nodes.specs.TurnCounts.{turns_of}
+use Rattle.round_nodes.specs.declared.run.Run.{Run}
 use Rattle.loader.specs.State.{State, start}
-use Rattle.loader.specs.Sessions.{SessionView, IsLawful, state_of}
-use Rattle.loader.specs.Effects.{line_effect, Moves}
+use Rattle.loader.specs.Sessions.{SessionView, IsConsistent, state_of}
+use Rattle.loader.specs.Effects.{line_effect, Performs}
 use Rattle.loader.specs.LineJournal.{IsKept, IsJournalOf}
 use Rattle.loader.proofs.Keeping.{kept_line, kept_journal, kept_at_start}
 use Rattle.serde_json.specs.Data.{Data}
@@ -40,7 +40,7 @@ module _ {budget : ℕ} {T told H held waiting : List ℕ} {h : SessionView} {ru
   abbrev s : State
   s = state_of h
 
-  -- the input, where the device has told more
+  -- the input, where the device has reported more
   input_is : (after fresh : List ℕ) → after ≡ told ++ fresh → after ≡ T ++ (b.taken ++ (waiting ++ fresh))
   input_is after fresh e = e ∙ ap (λ r. r ++ fresh) b.told_is ∙ append_assoc T (b.taken ++ waiting) fresh ∙ ap (λ r. T ++ r) (append_assoc b.taken waiting fresh)
 
@@ -60,14 +60,14 @@ module _ {budget : ℕ} {T told H held waiting : List ℕ} {h : SessionView} {ru
     held_is = b.held_is ∙ ap (λ r. H ++ r) (sym (append-nil (texts b.answers)));
   }
 
-  -- one more answer
+  -- one more reply
   one_more : (line : List ℕ) (d : Data) → IsAnswer line s d → AreAnswers start (lines_of b.taken ++ line ∷ []) (b.answers ++ d ∷ [])
   one_more line d is = are_more start (lines_of b.taken) b.answers line d b.are (subst (λ (x : State). IsAnswer line x d) b.state_is is)
 
   one_written : (now : List ℕ) (d : Data) → now ≡ held ++ answer_text d → now ≡ H ++ texts (b.answers ++ d ∷ [])
   one_written now d e = e ∙ ap (λ r. r ++ answer_text d) b.held_is ∙ append_assoc H (texts b.answers) (answer_text d) ∙ ap (λ r. H ++ r) (sym (texts_more b.answers d))
 
-  -- a part of the next answer
+  -- a part of the next reply
   begun : (line : List ℕ) (n : ℕ) (d : Data) → IsAnswer line s d → IsPart (line ∷ []) (state_after start (lines_of b.taken)) (take n (answer_text d))
   begun line n d is = of_next d (subst (λ (x : State). IsAnswer line x d) b.state_is is) (drop n (answer_text d), sym (take-append-drop n (answer_text d)))
 
@@ -140,7 +140,7 @@ module _ {budget : ℕ} {T told H held waiting : List ℕ} {h : SessionView} {ru
 
     pub after_line : (ended : Bool) (t : Took waiting rest told after kept long ended) → (not ended && (length t.line == 0)) ≡ false
         → (now : List ℕ) (h' : SessionView) (own : List Run) (d : Data) → IsAnswer t.line s d → now ≡ held ++ answer_text d → state_of h' ≡ line_state t.line s
-        → (IsLawful h → IsLawful h') → Moves (line_effect t.line s) h h' own → turns_of own ≤ budget → After budget ended T after H now rest h' (runs ++ own)
+        → (IsConsistent h → IsConsistent h') → Performs (line_effect t.line s) h h' own → turns_of own ≤ budget → After budget ended T after H now rest h' (runs ++ own)
     after_line true t there now h' own d is e f law moves within = record {
       taken = b.taken ++ (t.line ++ 10 ∷ []);
       answers = b.answers ++ d ∷ [];
@@ -163,7 +163,7 @@ module _ {budget : ℕ} {T told H held waiting : List ℕ} {h : SessionView} {ru
     }
 
 -- no line yet
-pub between_at_start : (budget : ℕ) (told held waiting : List ℕ) (h : SessionView) (runs : List Run) → waiting ≡ [] → runs ≡ [] → IsLawful h → h.began ≡ 0 → h.edits ≡ [] → h.graph.records ≡ [] → state_of h ≡ start → Between budget told told held held waiting h runs
+pub between_at_start : (budget : ℕ) (told held waiting : List ℕ) (h : SessionView) (runs : List Run) → waiting ≡ [] → runs ≡ [] → IsConsistent h → h.began ≡ 0 → h.edits ≡ [] → h.graph.records ≡ [] → state_of h ≡ start → Between budget told told held held waiting h runs
 between_at_start budget told held waiting h runs w r law began edits records state = record {
   taken = [];
   whole = tt;
@@ -195,7 +195,7 @@ stopped_at_start m n told held = record {
   held_is = sym (append-nil held);
 }
 
--- all answers are a beginning of the answers
+-- all replies are a beginning of the replies
 pub served_stopped : {budget m n : ℕ} {T told H held : List ℕ} {runs : List Run} → Served budget T told H held runs → m < n → Stopped m n T told H held
 served_stopped {T = T} {H = H} s lt = record {
   input = s.input;
@@ -212,7 +212,7 @@ served_stopped {T = T} {H = H} s lt = record {
   held_is = s.held_is ∙ ap (λ r. H ++ r) (sym (append-nil (texts s.answers)));
 }
 
--- a device that had told fewer ends before
+-- a device that had reported fewer ends before
 pub stopped_since : {l m n : ℕ} {T told H held : List ℕ} → l ≤ m → Stopped m n T told H held → Stopped l n T told H held
 stopped_since le stop = record {
   input = stop.input;

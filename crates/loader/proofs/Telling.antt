@@ -2,16 +2,16 @@
 use Rattle.std.proofs.Common.{◌≡◌, ◌≢◌, ◌⊎◌, inl, inr, ℕ, ◌+◌, ◌≤◌, List, [], ◌∷◌, ◌++◌, map, Some, refl, sym, ◌∙◌, ap, subst, arith, append_assoc}
 use Rattle.std.proofs.lemmas.List.{append-nil, map-append}
 use Rattle.std.specs.List.{AllByRecursion}
-use Rattle.evaluation.specs.Graph.{Record, Marks}
-use Rattle.evaluation.specs.Value.{AllDiffer, In, first, after}
+use Rattle.engine_semantics.specs.Graph.{Record, MarksDirty}
+use Rattle.engine_semantics.specs.Value.{AllDiffer, In, first, after}
 use Rattle.filetree.specs.Files.{Files}
 use Rattle.functions.specs.Next.{next}
 use Rattle.keys.specs.declared.key.Key.{Key}
 use Rattle.keys.specs.declared.value.Value.{Value}
 use Rattle.node.specs.Graphs.{GraphView, record_at, IsTouched}
-use Rattle.node.specs.Laws.{IsLawfulFor}
-use Rattle.open_nodes.specs.TurnCounts.{turns_of}
-use Rattle.open_nodes.specs.declared.run.Run.{Run}
+use Rattle.node.specs.Laws.{IsConsistentFor}
+use Rattle.round_nodes.specs.TurnCounts.{turns_of}
+use Rattle.round_nodes.specs.declared.run.Run.{Run}
 use Rattle.round.specs.Call.{IsCall}
 use Rattle.loader.specs.Journal.{Evaluation, turned_onto, keys_of, place_of, leaves, AreItemsOf, AreItemsOfEach, AreItems, IsJournal}
 use Rattle.loader.specs.GraphLinks.{all_turned, IsLinked, IsToldBy}
@@ -70,7 +70,7 @@ module _ (files : ℕ → Files) (paths : ℕ → List (List ℕ)) (budget : ℕ
       (items.0, items.1 ++ own, ap (λ r. r ++ own) items.2 ∙ append_assoc items.0 items.1 own, items.3, items.4, items_more (turned_onto earlier q) requests items.1 request own items.5 of within)
 
   -- an edit
-  pub told_edit : (old new : GraphView) (edited : List (List ℕ)) → new.version ≡ old.version + 1 → Marks (record_at old) (record_at new) (IsTouched edited) → IsLawfulFor next (leaves files paths) paths new
+  pub told_edit : (old new : GraphView) (edited : List (List ℕ)) → new.version ≡ old.version + 1 → MarksDirty (record_at old) (record_at new) (IsTouched edited) → IsConsistentFor next (leaves files paths) paths new
       → (requests : List (List Evaluation)) (runs : List Run) → IsToldBy files paths budget old requests runs → IsToldBy files paths budget new requests runs
   told_edit old new edited version marks law requests runs told = record {
     journal = told.journal;

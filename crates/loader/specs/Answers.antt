@@ -1,39 +1,39 @@
--- Which answers an input has, from the present files alone.
+-- Which replies an input has, from the present files alone.
 use Rattle.filetree.specs.declared.refusals.TheConstants.{LINE_TOO_LONG, NO_COMMAND}
 use Rattle.std.specs.Prelude.{◌≡◌, ℕ, ◌+◌, List, [], ◌∷◌, ◌++◌, Bool, true, false, Option, Some, None, option_and_then, codes, if◌then◌else◌}
-use Rattle.lines.specs.Lines.{is_too_long}
+use Rattle.base_lines.specs.Lines.{is_too_long}
 use Rattle.filetree.specs.Files.{Files}
 use Rattle.keys.specs.declared.value.BuildName.{BuildName}
 use Rattle.keys.specs.declared.value.BuildName.TheVariants.{BuildBazel, Build}
 use Rattle.labels.specs.Labels.{Target}
 use Rattle.keys.specs.declared.value.Value.{Value}
 use Rattle.keys.specs.declared.value.Value.TheVariants as value
-use Rattle.walks.specs.Lookups.{build_of}
-use Rattle.walks.specs.Below.{packages_below}
+use Rattle.functions_directories.specs.Lookups.{build_of}
+use Rattle.functions_directories.specs.Below.{packages_below}
 use Rattle.functions.specs.FilePackages.{HoldsPackage, HoldsModule}
-use Rattle.answers.specs.Answers.{package_data, faulty_package, packages_data, fault_data, cycle_data, module_data, faulty_module}
+use Rattle.loader_replies.specs.Answers.{package_data, faulty_package, packages_data, fault_data, cycle_data, module_data, faulty_module}
 use Rattle.serde_json.specs.Data.{Data, null, string, number, unsigned, object, no_members, member}
 use Rattle.serde_json.specs.Written.{compact_text}
-use Rattle.loader.specs.State.{State, Edit, Refusal, plain, at_change, refusal_of, changed}
-use Rattle.commands.specs.Refusals.{request_refusal, module_label}
-use Rattle.commands.specs.Commands.{Command, change, ask, Request, find, load, module_of, under, data_of, command_of}
+use Rattle.loader.specs.State.{State, Edit, Refusal, plain, at_change, refusal_of, state_after_edit}
+use Rattle.loader_commands.specs.Refusals.{request_refusal, module_label}
+use Rattle.loader_commands.specs.Commands.{Command, change, ask, Request, find, load, module_of, under, data_of, command_of}
 
 abbrev pub one_member : List ℕ → Data → Data
 one_member key d = object (member key d no_members)
 
-abbrev pub refused : ℕ → Data
-refused n = one_member (codes "refused") (number (unsigned n))
+abbrev pub refusal_reply : ℕ → Data
+refusal_reply n = one_member (codes "refused") (number (unsigned n))
 
 -- the change of a batch that is refused, by its place among them from 0 on
 abbrev pub refused_at : ℕ → ℕ → Data
 refused_at at n = object (member (codes "edit") (number (unsigned at)) (member (codes "refused") (number (unsigned n)) no_members))
 
 abbrev pub refusal_data : Refusal → Data
-refusal_data (plain n) = refused n
+refusal_data (plain n) = refusal_reply n
 refusal_data (at_change at n) = refused_at at n
 
-abbrev pub accepted : ℕ → Data
-accepted version = one_member (codes "ok") (number (unsigned version))
+abbrev pub accepted_reply : ℕ → Data
+accepted_reply version = one_member (codes "ok") (number (unsigned version))
 
 -- the name of a build file, or null
 abbrev pub build_text : Option BuildName → Data
@@ -52,7 +52,7 @@ package_shown name (value.Package targets) = package_data name targets
 package_shown name (value.Fault f) = faulty_package name (fault_data f.code f.path f.line)
 package_shown name (value.Cycle labels) = faulty_package name (cycle_data labels)
 
--- a module likewise
+-- a module, likewise
 abbrev pub module_shown : Value → Data
 module_shown (value.File text) = null
 module_shown (value.Listing names) = null
@@ -67,7 +67,7 @@ module_shown (value.Cycle labels) = faulty_module (cycle_data labels)
 abbrev pub IsPackageShown : Files → List ℕ → Data → Type 0
 IsPackageShown files name d = (v : Value) × HoldsPackage files name v × (d ≡ package_shown name v)
 
--- those with several names, in their order, repeats too
+-- the packages with several names, in their order, repeats too
 abbrev pub ArePackagesShown : Files → List (List ℕ) → List Data → Type 0
 ArePackagesShown files [] [] = Unit {0}
 ArePackagesShown files [] (d ∷ ds) = ⊥
@@ -79,7 +79,7 @@ abbrev pub IsModuleShown : Files → Option Target → Data → Type 0
 IsModuleShown files None d = ⊥
 IsModuleShown files (Some t) d = (v : Value) × HoldsModule files t v × (d ≡ module_shown v)
 
--- the answer to a request that is not refused
+-- the reply to a request that is not refused
 abbrev pub IsValueOf : Request → Files → Data → Type 0
 IsValueOf (find name) files d = d ≡ one_member (codes "build") (build_text (build_of files name))
 IsValueOf (load names) files d = (ds : List Data) × ArePackagesShown files names ds × (d ≡ packages_data ds)
@@ -87,22 +87,22 @@ IsValueOf (module_of label) files d = IsModuleShown files (module_label label) d
 IsValueOf (under directory) files d = (ds : List Data) × ArePackagesShown files (packages_below files directory) ds × (d ≡ packages_data ds)
 
 abbrev pub IsUnlessRefused : Option ℕ → (Data → Type 0) → Data → Type 0
-IsUnlessRefused (Some n) P d = d ≡ refused n
+IsUnlessRefused (Some n) P d = d ≡ refusal_reply n
 IsUnlessRefused None P d = P d
 
--- the first refusal, or an answer
+-- the first refusal, or a reply
 abbrev pub IsRequestAnswer : Request → Files → Data → Type 0
 IsRequestAnswer request files d = IsUnlessRefused (request_refusal request) (IsValueOf request files) d
 
 -- the first refusal, or the new version
 abbrev pub edit_answer : State → Option Refusal → Data
 edit_answer s (Some r) = refusal_data r
-edit_answer s None = accepted (s.version + 1)
+edit_answer s None = accepted_reply (s.version + 1)
 
 -- no change, or the change
 abbrev pub edited_state : Edit → State → Option Refusal → State
 edited_state edit s (Some r) = s
-edited_state edit s None = changed edit s
+edited_state edit s None = state_after_edit edit s
 
 abbrev pub IsAnswerTo : Command → State → Data → Type 0
 IsAnswerTo (change edit) s d = d ≡ edit_answer s (refusal_of edit s)
@@ -114,21 +114,21 @@ state_by (ask request) s = s
 
 abbrev pub IsAnswerIf : Option Command → State → Data → Type 0
 IsAnswerIf (Some command) s d = IsAnswerTo command s d
-IsAnswerIf None s d = d ≡ refused NO_COMMAND
+IsAnswerIf None s d = d ≡ refusal_reply NO_COMMAND
 
 abbrev pub state_if : Option Command → State → State
 state_if (Some command) s = state_by command s
 state_if None s = s
 
 abbrev pub IsAnswerOf : Bool → List ℕ → State → Data → Type 0
-IsAnswerOf true line s d = d ≡ refused LINE_TOO_LONG
+IsAnswerOf true line s d = d ≡ refusal_reply LINE_TOO_LONG
 IsAnswerOf false line s d = IsAnswerIf (option_and_then command_of (data_of line)) s d
 
--- an answer to a line
+-- a reply to a line
 abbrev pub IsAnswer : List ℕ → State → Data → Type 0
 IsAnswer line s d = IsAnswerOf (is_too_long line) line s d
 
--- the state after it
+-- the state after the line
 abbrev pub line_state : List ℕ → State → State
 line_state line s = if is_too_long line then s else state_if (option_and_then command_of (data_of line)) s
 
@@ -136,22 +136,22 @@ abbrev pub state_after : State → List (List ℕ) → State
 state_after s [] = s
 state_after s (line ∷ lines) = state_after (line_state line s) lines
 
--- an answer to each line, from a state on
+-- a reply to each line, from a state on
 abbrev pub AreAnswers : State → List (List ℕ) → List Data → Type 0
 AreAnswers s [] [] = Unit {0}
 AreAnswers s [] (d ∷ answers) = ⊥
 AreAnswers s (line ∷ lines) [] = ⊥
 AreAnswers s (line ∷ lines) (d ∷ answers) = IsAnswer line s d × AreAnswers (line_state line s) lines answers
 
--- the bytes of an answer
+-- the bytes of a reply
 abbrev pub answer_text : Data → List ℕ
 answer_text d = compact_text d ++ 10 ∷ []
 
--- and those of several, in their order
+-- the bytes of several replies, in their order
 abbrev pub texts : List Data → List ℕ
 texts [] = []
 texts (d ∷ answers) = answer_text d ++ texts answers
 
--- a text that tells such an answer
+-- a text that is such a reply
 abbrev pub Tells : (Data → Type 0) → List ℕ → Type 0
 Tells P text = (d : Data) × P d × (text ≡ compact_text d)

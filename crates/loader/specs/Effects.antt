@@ -1,26 +1,26 @@
 -- What a line does: nothing to files and graph, an accepted edit, or a request that is evaluated, once or twice.
 use Rattle.std.specs.Prelude.{◌≡◌, ◌⊎◌, ℕ, List, [], ◌∷◌, ◌++◌, map, Option, Some, None, option_and_then, option_map, Ok, if◌then◌else◌}
-use Rattle.evaluation.specs.Graph.{Marks}
-use Rattle.evaluation.specs.Value.{HasValue, In}
+use Rattle.engine_semantics.specs.Graph.{MarksDirty}
+use Rattle.engine_semantics.specs.Value.{HasValue, In}
 use Rattle.labels.specs.Labels.{Target, label_text}
 use Rattle.filetree.specs.Files.{Files}
-use Rattle.walks.specs.Below.{packages_below}
+use Rattle.functions_directories.specs.Below.{packages_below}
 use Rattle.functions.specs.Next.{next}
 use Rattle.keys.specs.Leaves.{read}
 use Rattle.keys.specs.Cycles.{cycle}
 use Rattle.keys.specs.declared.key.Key.{Key}
 use Rattle.keys.specs.declared.value.Value.{Value}
 use Rattle.keys.specs.declared.key.Key.TheVariants as key
-use Rattle.lines.specs.Lines.{is_too_long}
+use Rattle.base_lines.specs.Lines.{is_too_long}
 use Rattle.node.specs.Graphs.{GraphView, record_at, present, IsTouched}
-use Rattle.open_nodes.specs.declared.run.Run.{Run}
-use Rattle.node.specs.Laws.{IsLawfulFor}
-use Rattle.open_nodes.specs.Truths.{Past, IsAfter}
+use Rattle.round_nodes.specs.declared.run.Run.{Run}
+use Rattle.node.specs.Laws.{IsConsistentFor}
+use Rattle.round_nodes.specs.Invariants.{Past, IsAfter}
 use Rattle.round.specs.Call.{Calls}
 use Rattle.loader.specs.State.{State, Edit, Refusal, refusal_of}
-use Rattle.loader.specs.Sessions.{SessionView, IsLawful, files_of, paths_of}
-use Rattle.commands.specs.Refusals.{request_refusal, module_label}
-use Rattle.commands.specs.Commands.{Command, change, ask, Request, find, load, module_of, under, data_of, command_of}
+use Rattle.loader.specs.Sessions.{SessionView, IsConsistent, files_of, paths_of}
+use Rattle.loader_commands.specs.Refusals.{request_refusal, module_label}
+use Rattle.loader_commands.specs.Commands.{Command, change, ask, Request, find, load, module_of, under, data_of, command_of}
 use Rattle.loader.specs.Answers.{line_state}
 use Rattle.loader.specs.Journal.{Evaluation}
 
@@ -36,15 +36,15 @@ module_roots (Some t) = key.Module (label_text t) ∷ []
 abbrev pub package_roots : List (List ℕ) → List Key
 package_roots names = map (λ name. key.Package name) names
 
--- the keys that a request asks for: of `find` a look-up, of `load` a package for each name, of `module` the module, of
--- `under` the names of all packages at and below the directory
+-- the keys that a request asks for: for `find` a look-up, for `load` a package for each name, for `module` the module,
+-- for `under` the names of all packages at and below the directory
 abbrev pub request_roots : Request → List Key
 request_roots (find name) = key.Lookup name ∷ []
 request_roots (load names) = package_roots names
 request_roots (module_of label) = module_roots (module_label label)
 request_roots (under directory) = key.Under directory ∷ []
 
--- the keys that it asks for then: of `under` those packages
+-- the keys that it asks for then: for `under` those packages
 abbrev pub later_roots : Request → Files → Option (List Key)
 later_roots (find name) files = None
 later_roots (load names) files = None
@@ -55,9 +55,9 @@ abbrev pub last_roots : List Key → Option (List Key) → List Key
 last_roots roots None = roots
 last_roots roots (Some later) = later
 
--- the keys of which it tells
-abbrev pub told_roots : Request → Files → List Key
-told_roots request files = last_roots (request_roots request) (later_roots request files)
+-- the keys that its reply is about
+abbrev pub reply_roots : Request → Files → List Key
+reply_roots request files = last_roots (request_roots request) (later_roots request files)
 
 abbrev pub unless_refused : Option ℕ → Effect → Effect
 unless_refused (Some n) effect = nothing
@@ -66,7 +66,7 @@ unless_refused None effect = effect
 abbrev pub at_version : ℕ → List Key → Evaluation
 at_version version roots = record { version = version; roots = roots }
 
--- its first evaluation, and the second where it has one
+-- its first evaluation, and the second if it has one
 abbrev pub evaluations : Request → State → Effect
 evaluations request s = asked (at_version s.version (request_roots request)) (option_map (at_version s.version) (later_roots request s.files))
 
@@ -112,7 +112,7 @@ requests_in (nothing ∷ effects) = requests_in effects
 requests_in (edited edit ∷ effects) = requests_in effects
 requests_in (asked request later ∷ effects) = and_later request later ∷ requests_in effects
 
--- one evaluation: the law of a call holds on the graph, and nothing else changes
+-- one evaluation: the law of a call is true of the graph, and nothing else changes
 abbrev pub Evaluates : Evaluation → SessionView → SessionView → List Run → Type 0
 Evaluates request old new runs = (new.began ≡ old.began) × (new.edits ≡ old.edits) × (request.version ≡ old.graph.version) × Calls next (read (files_of old)) request.roots old.graph new.graph (Ok runs)
 
@@ -120,28 +120,29 @@ Evaluates request old new runs = (new.began ≡ old.began) × (new.edits ≡ old
 abbrev pub EvaluatesEach : Evaluation → Option Evaluation → SessionView → SessionView → List Run → Type 0
 EvaluatesEach request None old new runs = Evaluates request old new runs
 EvaluatesEach request (Some later) old new runs =
-    (mid : SessionView) × (first rest : List Run) × IsLawful mid × (runs ≡ first ++ rest) × Evaluates request old mid first × Evaluates later mid new rest
+    (mid : SessionView) × (first rest : List Run) × IsConsistent mid × (runs ≡ first ++ rest) × Evaluates request old mid first × Evaluates later mid new rest
 
 -- what an effect makes of a session, with these runs
-abbrev pub Moves : Effect → SessionView → SessionView → List Run → Type 0
-Moves nothing old new runs = (new ≡ old) × (runs ≡ [])
--- what the edit's paths reach is marked in the graph
-Moves (edited edit) old new runs = (runs ≡ []) × (new.began ≡ old.began) × (new.edits ≡ old.edits ++ edit ∷ []) × Marks (record_at old.graph) (record_at new.graph) (IsTouched (paths_of edit))
-Moves (asked request later) old new runs = EvaluatesEach request later old new runs
+abbrev pub Performs : Effect → SessionView → SessionView → List Run → Type 0
+Performs nothing old new runs = (new ≡ old) × (runs ≡ [])
+-- the records that the edit's paths reach are marked dirty in the graph
+Performs (edited edit) old new runs = (runs ≡ []) × (new.began ≡ old.began) × (new.edits ≡ old.edits ++ edit ∷ []) × MarksDirty (record_at old.graph) (record_at new.graph) (IsTouched (paths_of edit))
+Performs (asked request later) old new runs = EvaluatesEach request later old new runs
 
--- each of these keys has a value at the files, and it is held
-abbrev pub AreHeld : Files → List Key → GraphView → Type 0
-AreHeld files keys graph = (k : Key) → In k keys → (v : Value) × HasValue next (read files) cycle k v × (present (record_at graph k) ≡ Some v)
+-- each of these keys has a value at the files, and has it in the graph
+abbrev pub AreSettled : Files → List Key → GraphView → Type 0
+AreSettled files keys graph = (k : Key) → In k keys → (v : Value) × HasValue next (read files) cycle k v × (present (record_at graph k) ≡ Some v)
 
--- after a stop the graph is lawful for each history for which it was, no record is lost, and none that was settled has changed
+-- after a stop the graph is consistent for each history for which it was, no record is lost, and none that was settled
+-- has changed
 abbrev pub StopsAfter : List Key → SessionView → SessionView → Type 0
-StopsAfter roots old new = (past : Past (read (files_of old))) → past.entry ≡ old.graph → past.roots ≡ roots → IsLawfulFor next past.reads past.edits old.graph → IsAfter next (read (files_of old)) past new.graph
+StopsAfter roots old new = (past : Past (read (files_of old))) → past.entry ≡ old.graph → past.roots ≡ roots → IsConsistentFor next past.reads past.edits old.graph → IsAfter next (read (files_of old)) past new.graph
 
 -- after a stop of the first evaluation, or of a second one after the first went well
 abbrev pub StopsIn : List Key → Option (List Key) → SessionView → SessionView → Type 0
 StopsIn roots None old new = StopsAfter roots old new
 StopsIn roots (Some later) old new =
-    StopsAfter roots old new ⊎ ((mid : SessionView) × (runs : List Run) × Evaluates (at_version old.graph.version roots) old mid runs × IsLawful mid × StopsAfter later mid new)
+    StopsAfter roots old new ⊎ ((mid : SessionView) × (runs : List Run) × Evaluates (at_version old.graph.version roots) old mid runs × IsConsistent mid × StopsAfter later mid new)
 
 -- after a stop of a request
 abbrev pub StopsRequest : Request → SessionView → SessionView → Type 0

@@ -1,15 +1,15 @@
--- How the graph stands to the requests so far.
+-- What the graph is to the requests so far.
 use Rattle.std.specs.Prelude.{◌≡◌, ℕ, ◌<◌, ◌≤◌, List, [], ◌∷◌, Some, false}
-use Rattle.evaluation.specs.Graph.{Record}
-use Rattle.evaluation.specs.Value.{HasValue, In, IsMember, Settles}
+use Rattle.engine_semantics.specs.Graph.{Record}
+use Rattle.engine_semantics.specs.Value.{HasValue, In, IsMember, Settles}
 use Rattle.filetree.specs.Files.{Files}
 use Rattle.functions.specs.Next.{next}
 use Rattle.keys.specs.Cycles.{cycle}
 use Rattle.keys.specs.declared.key.Key.{Key}
 use Rattle.keys.specs.declared.value.Value.{Value}
 use Rattle.node.specs.Graphs.{GraphView, record_at, IsTouched}
-use Rattle.node.specs.Laws.{IsLawfulFor}
-use Rattle.open_nodes.specs.declared.run.Run.{Run}
+use Rattle.node.specs.Laws.{IsConsistentFor}
+use Rattle.round_nodes.specs.declared.run.Run.{Run}
 use Rattle.loader.specs.Journal.{Evaluation, turned_onto, leaves, IsSettledBy, IsLastSettled, IsJournal}
 
 -- the evaluations of the requests, the newest first, before others
@@ -29,7 +29,7 @@ module _ (files : ℕ → Files) (paths : ℕ → List (List ℕ)) where
 
   -- earlier requests, the newest first, and the graph that they left
   pub record IsLinked (graph : GraphView) (earlier : List Evaluation) : Type 0 where
-    pub lawful : IsLawfulFor next (leaves files paths) paths graph
+    pub lawful : IsConsistentFor next (leaves files paths) paths graph
     pub past : (request : Evaluation) → In request earlier → request.version ≤ graph.version
     -- a key with a record was settled by a request
     pub back : (k : Key) (r : Record Key Value) → record_at graph k ≡ Some r → (request : Evaluation) × In request earlier × IsSettledBy files paths k request
@@ -42,7 +42,8 @@ module _ (files : ℕ → Files) (paths : ℕ → List (List ℕ)) where
     -- the members of a clean record were not settled later
     pub members : (k j : Key) (r s : Record Key Value) → record_at graph k ≡ Some r → r.dirty ≡ false → IsMember j r.groups → record_at graph j ≡ Some s → s.settled_at ≤ r.settled_at
 
-  -- the journal so far, of these requests, the oldest first; each item's key has a record that was not settled before it
+  -- the journal so far, of these requests, the oldest first; each item's key has a record that was not settled before
+  -- the item's version
   pub record IsToldBy (budget : ℕ) (graph : GraphView) (requests : List (List Evaluation)) (runs : List Run) : Type 0 where
     pub journal : IsJournal files paths budget requests runs
     pub linked : IsLinked graph (all_turned [] requests)

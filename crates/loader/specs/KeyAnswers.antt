@@ -1,4 +1,4 @@
--- What is told of what is held of a key; nothing where nothing is held.
+-- The reply for the known value of a key, or nothing if it has none.
 use Rattle.std.specs.Prelude.{Option, Some, None}
 use Rattle.serde_json.specs.Data.{Data, null}
 use Rattle.keys.specs.Keys.{name_of}
@@ -6,10 +6,10 @@ use Rattle.keys.specs.declared.key.Key.{Key}
 use Rattle.keys.specs.declared.value.Value.{Value}
 use Rattle.loader.specs.Answers.{package_shown, module_shown}
 
-abbrev pub package_told : Key → Option Value → Data
-package_told k None = null
-package_told k (Some v) = package_shown (name_of k) v
+abbrev pub package_reply : Key → Option Value → Data
+package_reply k None = null
+package_reply k (Some v) = package_shown (name_of k) v
 
-abbrev pub module_told : Option Value → Data
-module_told None = null
-module_told (Some v) = module_shown v
+abbrev pub module_reply : Option Value → Data
+module_reply None = null
+module_reply (Some v) = module_shown v

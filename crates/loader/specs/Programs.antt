@@ -1,12 +1,14 @@
--- What the program does to the reader and the writer that it is given, in the words of the standard library: the bytes that a reader has left and those that a writer holds, each where they are known.
+-- What the program does to its reader and its writer, in the words of the standard library: the bytes that a reader has
+-- left and those that a writer has, each where they are known.
 use Rattle.std.specs.Prelude.{◌≡◌, ℕ, List, [], ◌++◌, Option, Some, IfSome, OnSome}
 use Rattle.serde_json.specs.Data.{Data}
-use Rattle.lines.specs.Lines.{lines_of}
+use Rattle.base_lines.specs.Lines.{lines_of}
 use Rattle.loader.specs.State.{start}
 use Rattle.loader.specs.Answers.{AreAnswers, texts}
 use Rattle.loader.specs.Service.{IsBeginning}
 
--- The reader had this input and has nothing left. The writer holds what it held and then the answers to the lines of the input, from no files, each by the files at its line alone.
+-- The reader had this input and has nothing left. The writer has what it had, followed by the replies to the lines of
+-- the input, from no files, each by the files at its line alone.
 pub record AnswersAll (unread left held holds : Option (List ℕ)) : Type 0 where
   pub input : List ℕ
   pub answers : List Data
@@ -15,7 +17,8 @@ pub record AnswersAll (unread left held holds : Option (List ℕ)) : Type 0 wher
   pub are : AreAnswers start (lines_of input) answers
   pub output_is : IfSome held (λ bytes. holds ≡ Some (bytes ++ texts answers))
 
--- The reader had this input and has an end of it left. The writer holds what it held and then a beginning of the answers.
+-- The reader had this input and has an end of it left. The writer has what it had, followed by a beginning of the
+-- replies.
 pub record AnswersPart (unread left held holds : Option (List ℕ)) : Type 0 where
   pub input : List ℕ
   pub answers : List Data

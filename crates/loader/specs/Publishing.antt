@@ -1,21 +1,21 @@
 -- What a request publishes, by the files and the version alone.
 use Rattle.std.specs.Prelude.{◌≡◌, ℕ, List, [], ◌∷◌, ◌++◌, map, fold, Bool, Option, Some, None, if◌then◌else◌}
 use Rattle.std.specs.List.{list_any}
-use Rattle.evaluation.specs.Value.{In, AllDiffer}
+use Rattle.engine_semantics.specs.Value.{In, AllDiffer}
 use Rattle.filetree.specs.Files.{Files}
 use Rattle.keys.specs.declared.key.Key.TheVariants as key
 use Rattle.node.specs.Graphs.{GraphView, record_at, present}
 use Rattle.serde_json.specs.Data.{Data}
 use Rattle.serde_json.specs.Written.{compact_text}
-use Rattle.commands.specs.Commands.{Request, find, load, module_of, under}
-use Rattle.commands.specs.Refusals.{request_refusal}
+use Rattle.loader_commands.specs.Commands.{Request, find, load, module_of, under}
+use Rattle.loader_commands.specs.Refusals.{request_refusal}
 use Rattle.shelf.specs.declared.publish.Publish.{Publish}
 use Rattle.shelf.specs.declared.keeper.Keeper.{Keeper}
 use Rattle.shelf.specs.declared.reader.Told.{Told}
 use Rattle.shelf.specs.Lists.{same_text, then_published}
 use Rattle.shelf.specs.Shelves.{published_by, shown_by, shelf_of, told_in, shelf_told_of}
 use Rattle.loader.specs.Answers.{IsPackageShown, Tells}
-use Rattle.loader.specs.KeyAnswers.{package_told}
+use Rattle.loader.specs.KeyAnswers.{package_reply}
 
 -- names with texts
 abbrev pub Entries : Type 0
@@ -57,17 +57,17 @@ Publishes files version None old new = new ≡ old
 Publishes files version (Some names) old new = (entries : Entries) × AreEntries files names entries × (new ≡ then_published old version entries)
 
 module _ {R : Type 0} where
-  -- readers are shown the whole list, and it is told; without names both are as before, and nothing is told
+  -- readers are shown the whole list, and it is made known; without names both are as before, and nothing is made known
   abbrev pub Shows : Option (List (List ℕ)) → Option Told → Keeper R → Keeper R → Type 0
   Shows None told old new = (told ≡ None) × (new ≡ old)
   Shows (Some names) told old new =
       (t : Told) × (told ≡ Some t) × (told_in t ≡ published_by new) × (shelf_told_of t ≡ shelf_of new) × (shown_by new ≡ published_by new)
 
--- ---- for private clauses: what is held of names
+-- ---- for private clauses: the known values of names
 
--- the package that is held of the key with a name
+-- the package that is the known value of the key with a name
 abbrev pub package_held : GraphView → List ℕ → Data
-package_held graph name = package_told (key.Package name) (present (record_at graph (key.Package name)))
+package_held graph name = package_reply (key.Package name) (present (record_at graph (key.Package name)))
 
 -- its text
 abbrev pub text_held : GraphView → List ℕ → List ℕ
@@ -76,7 +76,7 @@ text_held graph name = compact_text (package_held graph name)
 abbrev pub names_in : Entries → List (List ℕ)
 names_in = map (λ e. e.0)
 
--- each entry has the text that is held
+-- each entry has the text of the known value
 abbrev pub HaveTextsHeld : GraphView → Entries → Type 0
 HaveTextsHeld graph entries = entries ≡ map (λ name. (name, text_held graph name)) (names_in entries)
 
@@ -84,10 +84,10 @@ HaveTextsHeld graph entries = entries ≡ map (λ name. (name, text_held graph n
 abbrev pub has_name : List ℕ → List (List ℕ) → Bool
 has_name name names = list_any (λ n. same_text n name) names
 
--- a name behind others, unless it is among them
+-- names with one more, unless it is among them
 abbrev pub and_name : List (List ℕ) → List ℕ → List (List ℕ)
 and_name names name = if has_name name names then names else names ++ name ∷ []
 
--- each name once, in the order in which they first stand
+-- each name once, in the order in which they first occur
 abbrev pub each_of : List (List ℕ) → List (List ℕ)
 each_of = fold and_name []

@@ -1,7 +1,7 @@
 -- Laws of what is published, for those who read it.
 use Rattle.std.specs.Prelude.{◌≡◌, ℕ, List, Some}
 use mathlib.Core.List.{IsPrefix}
-use Rattle.evaluation.specs.Value.{In}
+use Rattle.engine_semantics.specs.Value.{In}
 use Rattle.filetree.specs.Files.{Files}
 use Rattle.shelf.specs.declared.publish.Publish.{Publish}
 use Rattle.shelf.specs.Lists.{entry}
@@ -12,13 +12,14 @@ use Rattle.loader.specs.Publishing.{Publishes}
 abbrev pub TellsTheFiles : (ℕ → Files) → List Publish → Type 0
 TellsTheFiles files list = (p : Publish) → In p list → (e : List ℕ × List ℕ) → In e p.entries → Tells (IsPackageShown (files p.version) e.0) e.1
 
--- after a publish a name that was asked for has the text of its package, with the version. Other names have what they had
+-- after a publish a name that was asked for has the text of its package, with the version. Other names have what they
+-- had
 abbrev pub PublishIsFound : Type 0
 PublishIsFound = (files : Files) (version : ℕ) (names : List (List ℕ)) (old new : List Publish) → Publishes files version (Some names) old new
     → ((name : List ℕ) → In name names → (text : List ℕ) × Tells (IsPackageShown files name) text × (entry new name ≡ Some (version, text)))
     × ((name : List ℕ) → ¬ In name names → entry new name ≡ entry old name)
 
--- a publish of the present packages keeps that
+-- a publish of the present packages keeps that true
 abbrev pub PublishTellsTheFiles : Type 0
 PublishTellsTheFiles = (files : ℕ → Files) (version : ℕ) (names : List (List ℕ)) (old new : List Publish)
     → TellsTheFiles files old → Publishes (files version) version (Some names) old new → TellsTheFiles files new

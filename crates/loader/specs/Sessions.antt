@@ -1,12 +1,12 @@
--- What a contract sees of a session: the graph, and the history of the files for which it is lawful.
+-- What a contract sees of a session: the graph, and the history of the files for which it is consistent.
 use Rattle.std.specs.Prelude.{◌≡◌, ℕ, zero, suc, ◌+◌, List, [], ◌∷◌, length, take, ⊤}
 use Rattle.std.specs.FinMap as map
 use Rattle.filetree.specs.Files.{Files}
 use Rattle.functions.specs.Next.{next}
 use Rattle.keys.specs.Leaves.{read}
 use Rattle.node.specs.Graphs.{GraphView}
-use Rattle.node.specs.Laws.{IsLawfulFor}
-pub use Rattle.commands.specs.Commands.{paths_of}
+use Rattle.node.specs.Laws.{IsConsistentFor}
+pub use Rattle.loader_commands.specs.Commands.{paths_of}
 use Rattle.loader.specs.State.{State, Edit, changed_files}
 
 pub record SessionView : Type 0 where
@@ -40,7 +40,8 @@ paths_at (edit ∷ edits) (suc (suc n)) = paths_at edits (suc n)
 abbrev pub files_at : List Edit → ℕ → Files
 files_at edits u = files_after map.empty (take u edits)
 
--- `files u` are the files at version u, and `paths u` are the paths of the edit to version u, where these edits are made from version n on
+-- `files u` are the files at version u, and `paths u` are the paths of the edit to version u, where these edits are
+-- made from version n on
 abbrev pub Follows : (ℕ → Files) → (ℕ → List (List ℕ)) → ℕ → List Edit → Type 0
 Follows files paths n [] = ⊤
 Follows files paths n (edit ∷ edits) = (files (suc n) ≡ changed_files edit (files n)) × (paths (suc n) ≡ paths_of edit) × Follows files paths (suc n) edits
@@ -50,7 +51,7 @@ pub record IsHistory (files : ℕ → Files) (paths : ℕ → List (List ℕ)) (
   pub start : files began ≡ map.empty
   pub follows : Follows files paths began edits
 
--- the version counts the edits, and the graph is lawful for their history under the loading rules
-pub record IsLawful (h : SessionView) : Type 0 where
+-- the version counts the edits, and the graph is consistent for their history under the loading rules
+pub record IsConsistent (h : SessionView) : Type 0 where
   pub version : h.graph.version ≡ h.began + length h.edits
-  pub lawful : (files : ℕ → Files) (paths : ℕ → List (List ℕ)) → IsHistory files paths h.began h.edits → IsLawfulFor next (λ u. read (files u)) paths h.graph
+  pub lawful : (files : ℕ → Files) (paths : ℕ → List (List ℕ)) → IsHistory files paths h.began h.edits → IsConsistentFor next (λ u. read (files u)) paths h.graph

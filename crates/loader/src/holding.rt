@@ -1,33 +1,34 @@
-//! Which packages have changed since a version, by what a graph holds of them.
+//! Which packages have changed since a version, by the values that a graph has of them.
 ghost use Rattle.std.specs.Prelude.{◌≡◌, IfOk, map};
-ghost use Rattle.commands.specs.View.{texts_seen};
+ghost use Rattle.loader_commands.specs.View.{texts_seen};
 ghost use Rattle.keys.specs.Keys.{name_of};
 ghost use Rattle.loader.specs.Holding as specs;
 
 use crate::request_answers::package_keys;
+use base_types::{Memory, Text};
 use keys::Key;
 use node::Graph;
 use std::alloc::Global;
-use texts::{Memory, Text};
 
 /// Which of some packages have changed since a version.
 #[derive(Drop)]
 pub struct Changes {
-    /// The names of the packages whose value is held and has changed after the version, in the order asked.
+    /// The names of the packages whose value is known and has changed after the version, in the order in which they
+    /// were asked for.
     pub changed: Vec<Text>,
-    /// The names of the packages of which no value is held, in the order asked: they were never loaded, or an edit since
-    /// then may have changed them. A request for them tells.
+    /// The names of the packages of which no value is known, in the order in which they were asked for: they were never
+    /// loaded, or an edit since then may have changed them. A request for them gives their values.
     pub unknown: Vec<Text>,
 }
 
-// Returns whether a value is held of a key.
+// Returns whether a key has a value in the graph.
 fn is_held(graph: &Graph, key: &Key) -> bool
     ensures { result ≡ specs.is_held graph.now key.now }
 {
     graph.get(key).is_some()
 }
 
-// Returns whether a value is held of a key that has changed after a version.
+// Returns whether a key has a value in the graph that has changed after a version.
 fn has_changed(graph: &Graph, key: &Key, version: u32) -> bool
     ensures { result ≡ specs.has_changed graph.now version key.now }
 {
@@ -40,7 +41,7 @@ fn has_changed(graph: &Graph, key: &Key, version: u32) -> bool
     }
 }
 
-// Returns those of these keys whose held value has changed after a version.
+// Returns those of these keys that have a value in the graph which has changed after a version.
 fn changed_keys(
     alloc: Global,
     graph: &Graph,
@@ -59,7 +60,7 @@ fn changed_keys(
     Ok(changed)
 }
 
-// Returns those of these keys of which no value is held.
+// Returns those of these keys that have no value in the graph.
 fn unknown_keys(alloc: Global, graph: &Graph, keys: &[Key]) -> Result<Vec<Key>, Memory>
     ensures { IfOk result (λ unknown. unknown.items ≡ specs.unknown_keys graph.now keys.now) }
 {
@@ -83,7 +84,7 @@ fn names_of(alloc: Global, keys: &[Key]) -> Result<Vec<Text>, Memory>
     Ok(names)
 }
 
-/// Returns the names of those packages whose held value has changed after a version.
+/// Returns the names of those packages that have a value in the graph which has changed after a version.
 pub fn changed_names(
     alloc: Global,
     graph: &Graph,
@@ -99,7 +100,7 @@ pub fn changed_names(
     Ok(told)
 }
 
-/// Returns the names of those packages of which no value is held.
+/// Returns the names of those packages that have no value in the graph.
 pub fn unknown_names(alloc: Global, graph: &Graph, names: &[&str]) -> Result<Vec<Text>, Memory>
     ensures { IfOk result
         (λ unknown. unknown.items ≡ specs.unknown_names graph.now (texts_seen names.now)) }

@@ -1,28 +1,28 @@
-//! What is told of the lines that are served.
+//! What is recorded of the lines that are served.
 ghost use Rattle.std.specs.Prelude.{◌≡◌, ℕ, List, Option, None, Some, ◌++◌, OnOk, [], flat_map};
-ghost use Rattle.open_nodes.specs.declared.run.Run.{Run};
+ghost use Rattle.round_nodes.specs.declared.run.Run.{Run};
 ghost use Rattle.loader.specs.LineAnswers.{IsOneMore};
 
-use count::Count;
-use events::{Events, LineFacts};
+use base_ghost::Count;
+use base_lines::Output;
+use base_types::Memory;
 use http_server::Log;
-use lines::Output;
+use loader_events::{Events, LineFacts};
 use node::Graph;
 use round::Run;
 use std::alloc::AllocError;
 use std::marker::Model;
-use texts::Memory;
 
-/// What takes the runs of requests, in their order, and is told of each line.
+/// Takes the runs of requests, in their order, and the facts of each line.
 pub trait Runs {
     // The runs that it took.
     ghost kept: { Self → List Run };
 
-    // Of how many lines it was told, where it counts them.
+    // How many lines it took, where it counts them.
     ghost lines: { Self → Option ℕ } = { λ _. None };
 
-    /// Takes the runs of one more line, after which the graph is this one. A line that is not evaluated has none.
-    /// Returns `Memory` if an allocation fails.
+    /// Takes the facts and the runs of one more line, after which the graph is this one. A line that is not evaluated
+    /// has no runs. Returns `Memory` if an allocation fails.
     fn add(&mut self, graph: &Graph, facts: &LineFacts<'_>, runs: Vec<Run>) -> Result<(), Memory>
         ensures kept { OnOk result (kept self.new ≡ kept self.old ++ runs.items) }
         ensures lines { OnOk result (IsOneMore (lines self.old) (lines self.new)) };
@@ -45,7 +45,8 @@ impl Runs for Vec<Run> {
     }
 }
 
-/// Keeps no run. A contract sees those that it took; a program cannot read them, and they take no memory.
+/// A journal that keeps no run. A contract sees those that it took; a program cannot read them, and they take no
+/// memory.
 #[derive(Drop)]
 pub struct GhostJournal {
     log: Log<Vec<Run>, ()>,
@@ -53,7 +54,7 @@ pub struct GhostJournal {
 
 impl Model for GhostJournal {
     ghost use Rattle.std.specs.Prelude.{List, flat_map};
-    ghost use Rattle.open_nodes.specs.declared.run.Run.{Run};
+    ghost use Rattle.round_nodes.specs.declared.run.Run.{Run};
 
     ghost Value = { List Run };
 
@@ -61,7 +62,7 @@ impl Model for GhostJournal {
 }
 
 impl GhostJournal {
-    /// Begins with no run.
+    /// Makes a journal without a run.
     pub fn new() -> GhostJournal
         ensures { result ≡ [] }
     {
@@ -83,7 +84,7 @@ impl Runs for GhostJournal {
     }
 }
 
-/// A journal beside events: each line is told as an event before its runs are kept.
+/// A journal with events: each line is written as an event before its runs are kept.
 #[derive(Drop)]
 pub struct EventJournal<W: Output, J: Runs> {
     events: Events<W>,
@@ -92,7 +93,7 @@ pub struct EventJournal<W: Output, J: Runs> {
 }
 
 impl<W: Output, J: Runs> EventJournal<W, J> {
-    /// Begins with these events, and with a journal without runs.
+    /// Makes a journal without runs, with these events.
     pub fn new(events: Events<W>, journal: J) -> EventJournal<W, J>
         ensures journal { result.journal ≡ journal }
         ensures lines { result.lines ≡ 0 }

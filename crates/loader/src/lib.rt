@@ -1,5 +1,5 @@
-//! Lines of commands in, lines of answers out: a resident loader of packages. Layer: product, on base, files, engine
-//! and loading. Begin at `session.rt` and `specs/Effects.antt`.
+//! Lines of commands in, lines of replies out: a resident loader of packages. Begin at `session.rt` and
+//! `specs/Effects.antt`.
 #![tactic(auto)]
 
 mod holding;
@@ -14,8 +14,7 @@ mod session;
 mod turns;
 mod workers;
 
-pub use commands::{Edit, EditError, Request};
-pub use events::{Events, LineFacts, LineOutcome};
+pub use base_lines::{DeviceError, Input, Output};
 pub use filetree::Change;
 pub use holding::Changes;
 pub use journal::{EventJournal, GhostJournal, Journal, Runs};
@@ -23,7 +22,8 @@ pub use laws::{
     input_determines_output, lines_determine_answers, lines_have_answers,
     unchanged_packages_are_equal,
 };
-pub use lines::{DeviceError, Input, Output};
+pub use loader_commands::{Edit, EditError, Request};
+pub use loader_events::{Events, LineFacts, LineOutcome};
 pub use program::{ProgramEnd, run_program};
 pub use publishing_laws::{published_load_is_found, published_texts_are_answers};
 pub use round::{Run, Stop};

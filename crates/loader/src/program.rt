@@ -1,10 +1,10 @@
-//! The program but for its `main`, over the reader and the writer of `std` that it is given.
+//! The program but for its `main`, over a reader and a writer of `std`.
 ghost use Rattle.std.specs.Prelude.{◌≡◌, ◌⊎◌};
 ghost use Rattle.std.specs.Io.KnownBytes.{Keeps};
 ghost use Rattle.loader.specs.Programs.{AnswersAll, AnswersPart};
 
 use crate::serving::command;
-use lines::{ReaderInput, WriterOutput};
+use base_lines::{ReaderInput, WriterOutput};
 use std::alloc::Global;
 use std::convert::AsStr;
 use std::io::{Read, Write};
@@ -12,7 +12,7 @@ use std::rt::Files;
 use std::sync::Wait;
 use std::thread::Threads;
 
-/// How the program ended, with the devices that it was given.
+/// How the program ended, with its devices.
 #[derive(Drop)]
 pub struct ProgramEnd<R, W> {
     /// The exit status: 0, 2 or 3.
@@ -21,15 +21,15 @@ pub struct ProgramEnd<R, W> {
     pub writer: W,
 }
 
-/// Runs the program: `words` are its words, its own name first. It answers the lines of `reader` to `writer`, from no
-/// files, and gives both back with the exit status. The contract says what was done to them in the words of `std`: of a
-/// reader whose bytes are known, and of a writer whose contents are known. Pipes and terminals are served by the same
-/// body.
+/// Runs the program: `words` are its words, its own name first. It writes to `writer` the replies to the lines of
+/// `reader`, beginning with no files, and returns both with the exit status. The contract says what was done to them in
+/// the words of `std`: for a reader whose bytes are known, and for a writer whose contents are known. Pipes and
+/// terminals are served by the same body.
 ///
-/// The status is 0 if all of the reader's bytes are read and answered, each line by the files at that line alone. It is
-/// 2 for bad words, whose text goes to `errors`; nothing is read or written then. It is 3 for a stop, which a line on
-/// `errors` tells, `stop: read`, `stop: write`, `stop: budget` or `stop: memory`; then a beginning of the answers was
-/// written.
+/// The status is 0 if all of the reader's bytes are read and there is a reply to each line, by the files at that line
+/// alone. It is 2 for bad words, for which a text is written to `errors`; then nothing is read or written. It is 3 for
+/// a stop, for which a line is written to `errors`: `stop: read`, `stop: write`, `stop: budget` or `stop: memory`. Then
+/// a beginning of the replies was written.
 pub fn run_program<T: Threads + Wait + Sync + Files, S: AsStr, R: Read, W: Write, E: Write>(
     runtime: &T,
     alloc: Global,

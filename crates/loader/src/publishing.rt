@@ -1,39 +1,39 @@
-//! The packages of a load, each told once: the line that answers with them, and the entries that are published.
+//! The packages of a load, each written once: the line that is the reply with them, and the entries that are published.
 ghost use Rattle.std.specs.Prelude.{◌≡◌, ◌++◌, map, IfOk, OnOk, option_map, string_bytes};
 ghost use Rattle.std.specs.Map.{lookup};
 ghost use Rattle.keys.specs.declared.key.Key.TheVariants as keys;
 ghost use Rattle.node.specs.Graphs.{record_at, present};
 ghost use Rattle.serde_json.specs.Written.{compact_text, comma_if};
 ghost use Rattle.shelf.specs.Lists.{same_text};
-ghost use Rattle.answers.specs.Answers.{packages_data};
-ghost use Rattle.commands.specs.View.{texts_seen};
+ghost use Rattle.loader_replies.specs.Answers.{packages_data};
+ghost use Rattle.loader_commands.specs.View.{texts_seen};
 ghost use Rattle.loader.specs.Publishing.{HaveTextsHeld, names_in, and_name, each_of, package_held, text_held};
-ghost use Rattle.loader.specs.KeyAnswers.{package_told};
+ghost use Rattle.loader.specs.KeyAnswers.{package_reply};
 
-use crate::request_answers::write_package_held;
-use answers::Draft;
+use crate::request_answers::write_package_of;
+use base_types::{Memory, Text};
 use keys::Key;
+use loader_replies::JsonWriter;
 use node::Graph;
 use std::alloc::Global;
-use texts::{Memory, Text};
 
-/// What a load tells.
+/// The packages of a load as texts.
 #[derive(Drop)]
 pub struct Packages {
-    /// The line that answers with all, without its byte 10.
+    /// The line that replies with all of them, without its byte 10.
     pub line: String,
     /// The text of each package under its name, each name once.
     pub entries: Vec<(Text, Text)>,
 }
 
-// Returns the text of the package that is held of a key.
+// Returns the text of the package of a key, from its value in the graph.
 fn text_of(alloc: Global, graph: &Graph, key: &Key) -> Result<Text, Memory>
     ensures { IfOk result
         (λ text. text ≡ compact_text
-        (package_told key.now (present (record_at graph.now key.now)))) }
+        (package_reply key.now (present (record_at graph.now key.now)))) }
 {
-    let mut out = Draft::new(alloc);
-    write_package_held(alloc, &mut out, graph, key)?;
+    let mut out = JsonWriter::new(alloc);
+    write_package_of(alloc, &mut out, graph, key)?;
     let text = out.into_text();
     Text::from_string(alloc, text)
 }
@@ -51,8 +51,8 @@ fn text_in<'a>(entries: &'a [(Text, Text)], name: &Text) -> Option<&'a Text>
     None
 }
 
-// Returns the text of the package with a name. It is made where no entry has the name, and then there is an entry for it.
-fn text_once(
+// Returns the text of the package with a name. If no entry has the name, it makes the text and adds an entry for it.
+fn cached_text(
     alloc: Global,
     graph: &Graph,
     name: Text,
@@ -73,7 +73,7 @@ fn text_once(
     Ok(text)
 }
 
-// Adds an item of an array to a line, with a comma before it where it is not the first.
+// Adds an item of an array to a line. A comma comes first if the item is not the first one.
 fn add_item(line: &mut String, later: bool, text: &Text) -> Result<(), Memory>
     ensures { OnOk result (string_bytes line.new ≡ string_bytes line.old
         ++ (comma_if later ++ text.now)) }
@@ -85,8 +85,8 @@ fn add_item(line: &mut String, later: bool, text: &Text) -> Result<(), Memory>
     Ok(())
 }
 
-/// Tells the packages with these names, in their order. Each text is made once.
-pub fn packages_told(alloc: Global, graph: &Graph, names: &[&str]) -> Result<Packages, Memory>
+/// Writes the packages with these names, in their order. Each text is made once.
+pub fn packages_reply(alloc: Global, graph: &Graph, names: &[&str]) -> Result<Packages, Memory>
     ensures line { IfOk result
         (λ p. string_bytes p.line ≡ compact_text
         (packages_data (map (package_held graph.now) (texts_seen names.now)))) }
@@ -97,7 +97,7 @@ pub fn packages_told(alloc: Global, graph: &Graph, names: &[&str]) -> Result<Pac
     let mut entries = Vec::new(alloc);
     let mut later = false;
     for name in names {
-        let text = text_once(alloc, graph, Text::new(alloc, name)?, &mut entries)?;
+        let text = cached_text(alloc, graph, Text::new(alloc, name)?, &mut entries)?;
         add_item(&mut line, later, &text)?;
         later = true;
     }

@@ -7,7 +7,7 @@ pub fn published_load_is_found()
     ensures { PublishIsFound }
 {}
 
-/// States the law of all that is published, if every publish is a load's. Each text is the answer of its package, at
+/// States the law of all that is published, if every publish is a load's. Each text is the reply for its package, at
 /// the files of its version. A publish keeps that true of a list, and whatever a reader finds is such a text.
 pub fn published_texts_are_answers()
     ensures kept { PublishTellsTheFiles }

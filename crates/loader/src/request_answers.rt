@@ -1,4 +1,4 @@
-//! What requests ask for, and what is told of it: packages and modules as they are answered.
+//! What requests ask for, and the replies to them: packages and modules as JSON.
 ghost use Rattle.std.specs.Prelude.{◌≡◌, ◌∷◌, ◌++◌, [], ℕ, List, map, Option, Some, None, IfOk, OnOk, option_map, string_bytes};
 ghost use Rattle.filetree.specs.Files.{Files};
 ghost use Rattle.keys.specs.declared.value.BuildName.{BuildName};
@@ -9,26 +9,26 @@ ghost use Rattle.serde_json.specs.Written.{compact_text};
 ghost use Rattle.std.specs.Arc.{arc_value};
 ghost use Rattle.filetree.specs.Lawful.{HasPaths};
 ghost use Rattle.keys.specs.declared.key.Key.{Key};
-ghost use Rattle.answers.specs.Answers.{packages_data};
-ghost use Rattle.answers.specs.Tokens.{tokens_of};
-ghost use Rattle.commands.specs.View.{request_seen, texts_seen};
-ghost use Rattle.commands.specs.Refusals.{request_refusal, module_label};
+ghost use Rattle.loader_replies.specs.Answers.{packages_data};
+ghost use Rattle.loader_replies.specs.Tokens.{tokens_of};
+ghost use Rattle.loader_commands.specs.View.{request_seen, texts_seen};
+ghost use Rattle.loader_commands.specs.Refusals.{request_refusal, module_label};
 ghost use Rattle.loader.specs.Answers as answers;
 ghost use Rattle.loader.specs.Effects as effects;
-ghost use Rattle.loader.specs.Effects.{AreHeld, request_roots, told_roots, module_roots, package_roots};
-ghost use Rattle.loader.specs.KeyAnswers.{package_told, module_told};
+ghost use Rattle.loader.specs.Effects.{AreSettled, request_roots, reply_roots, module_roots, package_roots};
+ghost use Rattle.loader.specs.KeyAnswers.{package_reply, module_reply};
 
 use crate::session::build_text;
-use answers::{
-    Draft, begin_packages, end_packages, write_cyclic_module, write_cyclic_package, write_exports,
-    write_faulty_module, write_faulty_package, write_package,
-};
-use commands::{Request, module_label};
+use base_types::{Memory, Text};
 use keys::{BuildName, Key, Value};
+use loader_commands::{Request, module_label};
+use loader_replies::{
+    JsonWriter, begin_packages, end_packages, write_cyclic_module, write_cyclic_package,
+    write_exports, write_faulty_module, write_faulty_package, write_package,
+};
 use node::Graph;
 use std::alloc::Global;
 use std::sync::Arc;
-use texts::{Memory, Text};
 
 /// Returns the key of each package.
 pub fn package_keys(alloc: Global, names: &[&str]) -> Result<Vec<Key>, Memory>
@@ -82,7 +82,7 @@ pub fn later_roots(
     roots: &[Key],
 ) -> Result<Option<Vec<Key>>, Memory>
     ensures { IfOk result (λ found. (files : Files) → HasPaths files → roots.now ≡ request_roots
-        (request_seen request.now) → AreHeld files roots.now graph.now
+        (request_seen request.now) → AreSettled files roots.now graph.now
         → option_map (λ keys. keys.items) found ≡ effects.later_roots (request_seen request.now)
         files) }
 {
@@ -108,7 +108,7 @@ fn named_keys(alloc: Global, names: &[Text]) -> Result<Vec<Key>, Memory>
     Ok(roots)
 }
 
-// Returns the names that are held of the first of these keys.
+// Returns the names that the first of these keys has as its value in the graph.
 fn names_held<'a>(graph: &'a Graph, roots: &[Key]) -> &'a [Text]
     ensures { (directory : List ℕ) (names : List (List ℕ)) → roots.now ≡ keys.Under directory ∷ []
         → present (record_at graph.now (keys.Under directory)) ≡ Some (values.Paths names)
@@ -120,7 +120,7 @@ fn names_held<'a>(graph: &'a Graph, roots: &[Key]) -> &'a [Text]
     }
 }
 
-// Returns the names that a value holds.
+// Returns the names that a value has.
 fn held_names(value: Option<&Arc<Value>>) -> &[Text]
     ensures { (names : List (List ℕ)) → option_map (λ v. arc_value v.now) value.entry
         ≡ Some (values.Paths names) → result.now ≡ names }
@@ -134,16 +134,16 @@ fn held_names(value: Option<&Arc<Value>>) -> &[Text]
     }
 }
 
-/// Returns the text of the answer to a request that is not refused, by the values that are held of its keys.
-pub fn told(
+/// Returns the text of the reply to a request that is not refused, from the values of its keys in the graph.
+pub fn reply_text(
     alloc: Global,
     graph: &Graph,
     request: &Request<'_>,
     roots: &[Key],
 ) -> Result<String, Memory>
     ensures { IfOk result (λ text. (files : Files) → HasPaths files
-        → request_refusal (request_seen request.now) ≡ None → roots.now ≡ told_roots
-        (request_seen request.now) files → AreHeld files roots.now graph.now
+        → request_refusal (request_seen request.now) ≡ None → roots.now ≡ reply_roots
+        (request_seen request.now) files → AreSettled files roots.now graph.now
         → answers.Tells (answers.IsValueOf (request_seen request.now) files) (string_bytes text)) }
 {
     match request {
@@ -154,71 +154,71 @@ pub fn told(
     }
 }
 
-// Returns the text of the packages that are held of these keys.
+// Returns the text of the packages of these keys.
 fn packages_text(alloc: Global, graph: &Graph, roots: &[Key]) -> Result<String, Memory>
     ensures { IfOk result
         (λ text. string_bytes text ≡ compact_text
-        (packages_data (map (λ k. package_told k (present (record_at graph.now k))) roots.now))) }
+        (packages_data (map (λ k. package_reply k (present (record_at graph.now k))) roots.now))) }
 {
-    let mut out = Draft::new(alloc);
+    let mut out = JsonWriter::new(alloc);
     write_packages(alloc, &mut out, graph, roots)?;
     Ok(out.into_text())
 }
 
-// Writes the packages that are held of these keys.
+// Writes the packages of these keys.
 fn write_packages(
     alloc: Global,
-    out: &mut Draft,
+    out: &mut JsonWriter,
     graph: &Graph,
     roots: &[Key],
 ) -> Result<(), Memory>
     ensures { OnOk result
         (out.new ≡ out.old ++ tokens_of
-        (packages_data (map (λ k. package_told k (present (record_at graph.now k))) roots.now))) }
+        (packages_data (map (λ k. package_reply k (present (record_at graph.now k))) roots.now))) }
 {
     begin_packages(out)?;
     for root in roots {
-        write_package_held(alloc, out, graph, root)?;
+        write_package_of(alloc, out, graph, root)?;
     }
     end_packages(out)
 }
 
-/// Writes the package that is held of a key.
-pub fn write_package_held(
+/// Writes the package of a key.
+pub fn write_package_of(
     alloc: Global,
-    out: &mut Draft,
+    out: &mut JsonWriter,
     graph: &Graph,
     key: &Key,
 ) -> Result<(), Memory>
     ensures { OnOk result
         (out.new ≡ out.old ++ tokens_of
-        (package_told key.now (present (record_at graph.now key.now)))) }
+        (package_reply key.now (present (record_at graph.now key.now)))) }
 {
     match graph.get(key) {
-        Some(value) => write_package_shown(alloc, out, key.name(), value),
+        Some(value) => write_package_value(alloc, out, key.name(), value),
         None => out.null(),
     }
 }
 
-// Returns the text of the module that is held of the first of these keys.
+// Returns the text of the module of the first of these keys.
 fn module_text(alloc: Global, graph: &Graph, roots: &[Key]) -> Result<String, Memory>
     ensures { IfOk result (λ text. (k : Key) → roots.now ≡ k ∷ [] → string_bytes text ≡ compact_text
-        (module_told (present (record_at graph.now k)))) }
+        (module_reply (present (record_at graph.now k)))) }
 {
-    let mut out = Draft::new(alloc);
+    let mut out = JsonWriter::new(alloc);
     write_first_module(alloc, &mut out, graph, roots)?;
     Ok(out.into_text())
 }
 
-// Writes the module that is held of the first of these keys.
+// Writes the module of the first of these keys.
 fn write_first_module(
     alloc: Global,
-    out: &mut Draft,
+    out: &mut JsonWriter,
     graph: &Graph,
     roots: &[Key],
 ) -> Result<(), Memory>
     ensures { OnOk result ((k : Key) → roots.now ≡ k ∷ [] → out.new ≡ out.old ++ tokens_of
-        (module_told (present (record_at graph.now k)))) }
+        (module_reply (present (record_at graph.now k)))) }
 {
     match roots.first() {
         Some(root) => write_module_held(alloc, out, graph, root),
@@ -226,10 +226,15 @@ fn write_first_module(
     }
 }
 
-// Writes the module that is held of a key.
-fn write_module_held(alloc: Global, out: &mut Draft, graph: &Graph, key: &Key) -> Result<(), Memory>
+// Writes the module of a key.
+fn write_module_held(
+    alloc: Global,
+    out: &mut JsonWriter,
+    graph: &Graph,
+    key: &Key,
+) -> Result<(), Memory>
     ensures { OnOk result
-        (out.new ≡ out.old ++ tokens_of (module_told (present (record_at graph.now key.now)))) }
+        (out.new ≡ out.old ++ tokens_of (module_reply (present (record_at graph.now key.now)))) }
 {
     match graph.get(key) {
         Some(value) => write_module_shown(alloc, out, value),
@@ -237,7 +242,7 @@ fn write_module_held(alloc: Global, out: &mut Draft, graph: &Graph, key: &Key) -
     }
 }
 
-// Returns the build file that is held of the first of these keys.
+// Returns the build file that the look-up of the first of these keys found.
 fn found_by(graph: &Graph, roots: &[Key]) -> Option<BuildName>
     ensures { (name : List ℕ) (found : Option BuildName) → roots.now ≡ keys.Lookup name ∷ []
         → present (record_at graph.now (keys.Lookup name)) ≡ Some (values.Lookup found)
@@ -246,7 +251,7 @@ fn found_by(graph: &Graph, roots: &[Key]) -> Option<BuildName>
     held_build(graph.get(roots.first()?))
 }
 
-// Returns the build file that the value of a look-up holds.
+// Returns the build file that the value of a look-up has.
 fn held_build(value: Option<&Arc<Value>>) -> Option<BuildName>
     ensures { (found : Option BuildName) → option_map (λ v. arc_value v.now) value.entry
         ≡ Some (values.Lookup found) → result ≡ found }
@@ -257,10 +262,10 @@ fn held_build(value: Option<&Arc<Value>>) -> Option<BuildName>
     }
 }
 
-/// Writes a package, or its fault, or the cycle to which its loads lead, by what its node holds.
-pub fn write_package_shown(
+/// Writes a package, or its fault, or the cycle to which its loads lead, from the value of its node.
+pub fn write_package_value(
     alloc: Global,
-    out: &mut Draft,
+    out: &mut JsonWriter,
     name: &Text,
     value: &Value,
 ) -> Result<(), Memory>
@@ -281,8 +286,8 @@ pub fn write_package_shown(
     }
 }
 
-/// Writes a module, or its fault, or the cycle to which its loads lead, by what its node holds.
-pub fn write_module_shown(alloc: Global, out: &mut Draft, value: &Value) -> Result<(), Memory>
+/// Writes a module, or its fault, or the cycle to which its loads lead, from the value of its node.
+pub fn write_module_shown(alloc: Global, out: &mut JsonWriter, value: &Value) -> Result<(), Memory>
     ensures { OnOk result (out.new ≡ out.old ++ tokens_of (answers.module_shown value.now)) }
 {
     match value {

@@ -1,19 +1,21 @@
-//! Serving: lines of a reader in, their answers out to a writer, what is kept of the runs, and the program but for its `main`.
+//! Serving: the lines of a reader, the replies to them that go to a writer, what is kept of the runs, and the program
+//! but for its `main`.
 ghost use Rattle.std.specs.Prelude.{◌≡◌, [], ℕ, ◌<◌, ◌≤◌, ◌+◌, List, length, IfOk, OnOk, OnErr, IsErrOf, not, ◌&&◌, ◌==◌, false, if◌then◌else◌, ◌⊎◌};
 ghost use Rattle.board.specs.Rule.{total};
-ghost use Rattle.lines.specs.Lines.{Keeps};
-ghost use Rattle.open_nodes.specs.TurnCounts.{turns_of};
-ghost use Rattle.open_nodes.specs.declared.run.Run.{Run};
+ghost use Rattle.base_lines.specs.Lines.{HoldsLine};
+ghost use Rattle.round_nodes.specs.TurnCounts.{turns_of};
+ghost use Rattle.round_nodes.specs.declared.run.Run.{Run};
 ghost use Rattle.loader.specs.Service.{Served, Stopped, Between, After};
 
 use crate::journal::{EventJournal, GhostJournal, Journal, Runs};
-use crate::session::{Session, answer, answer_with};
+use crate::session::{Session, reply_to_line, reply_to_line_with};
+use base_lines::{DeviceError, Input, Line, LineError, Output, Pending, WriterOutput, next_line};
+use base_types::Memory;
 use clap::error::ErrorKind;
 use clap::{Arg, ArgAction, ArgMatches, Command, value_parser};
-use events::Events;
 use functions::{LoadRules, Loading};
 use keys::is_leaf;
-use lines::{DeviceError, Input, Line, Output, Pending, ReadStop, WriterOutput, next_line};
+use loader_events::Events;
 use round::{Run, Stop};
 use std::alloc::{AllocError, Global};
 use std::convert::AsStr;
@@ -22,10 +24,9 @@ use std::rt::Files;
 use std::sync::Wait;
 use std::thread::Threads;
 use std::{fs, mem};
-use texts::Memory;
 use thiserror::Error;
 
-/// Why serving stopped before the end of the input. What was written is then a beginning of the answers.
+/// Why serving stopped before the end of the input. What was written is then a beginning of the replies.
 #[derive(Debug, Drop, Error)]
 pub enum ServeStop {
     /// The reader failed.
@@ -37,7 +38,7 @@ pub enum ServeStop {
     /// A request spent its budget of turns.
     #[error("budget")]
     Budget,
-    /// A growth was refused.
+    /// An allocation failed.
     #[error("memory")]
     Memory(Memory),
 }
@@ -45,7 +46,7 @@ pub enum ServeStop {
 impl From<AllocError> for ServeStop {
     ghost use Rattle.std.specs.Prelude.{◌≡◌};
     ghost use Rattle.loader.specs.declared.serving.ServeStop.TheVariants.{Memory};
-    ghost use Rattle.texts.specs.Refusals.{memory};
+    ghost use Rattle.base_types.specs.Refusals.{memory};
 
     ghost from_gives = { λ _ e. e ≡ Memory memory };
 
@@ -58,7 +59,7 @@ impl From<Stop> for ServeStop {
     ghost use Rattle.std.specs.Prelude.{◌≡◌};
     ghost use Rattle.round.specs.declared.stop.Stop.TheVariants as stops;
     ghost use Rattle.loader.specs.declared.serving.ServeStop.TheVariants.{Budget, Memory};
-    ghost use Rattle.texts.specs.Refusals.{memory};
+    ghost use Rattle.base_types.specs.Refusals.{memory};
 
     ghost from_gives = { λ e f. (e ≡ stops.Budget → f ≡ Budget) × (e ≡ stops.Memory memory → f ≡ Memory memory) };
 
@@ -70,18 +71,18 @@ impl From<Stop> for ServeStop {
     }
 }
 
-impl From<ReadStop> for ServeStop {
+impl From<LineError> for ServeStop {
     ghost use Rattle.std.specs.Prelude.{◌≡◌};
-    ghost use Rattle.lines.specs.declared.pending.ReadStop.TheVariants as stops;
+    ghost use Rattle.base_lines.specs.declared.pending.LineError.TheVariants as stops;
     ghost use Rattle.loader.specs.declared.serving.ServeStop.TheVariants.{Read, Memory};
-    ghost use Rattle.texts.specs.Refusals.{memory};
+    ghost use Rattle.base_types.specs.Refusals.{memory};
 
     ghost from_gives = { λ e f. (e ≡ stops.Read → f ≡ Read) × (e ≡ stops.Memory memory → f ≡ Memory memory) };
 
-    fn from(error: ReadStop) -> ServeStop {
+    fn from(error: LineError) -> ServeStop {
         match error {
-            ReadStop::Read => ServeStop::Read,
-            ReadStop::Memory(error) => ServeStop::Memory(error),
+            LineError::Read => ServeStop::Read,
+            LineError::Memory(error) => ServeStop::Memory(error),
         }
     }
 }
@@ -99,13 +100,13 @@ impl From<DeviceError> for ServeStop {
 
 // Returns whether the input ended with no byte of a line.
 fn is_end(ended: bool, line: &Line) -> bool
-    ensures { (whole : List ℕ) → Keeps line.now.bytes.items line.now.too_long whole
+    ensures { (whole : List ℕ) → HoldsLine line.now.bytes.items line.now.too_long whole
         → result ≡ (not ended && (length whole == 0)) }
 {
     !ended && line.is_empty()
 }
 
-// Answers one more line, and returns whether more may come.
+// Replies to one more line, and returns whether more may come.
 fn serve_line<R: Input, W: Output, J: Runs>(
     alloc: Global,
     reader: &mut R,
@@ -139,12 +140,13 @@ fn serve_line<R: Input, W: Output, J: Runs>(
     if is_end(ended, line) {
         return Ok(false);
     }
-    let text = answer(alloc, session, journal, line, budget)?;
+    let text = reply_to_line(alloc, session, journal, line, budget)?;
     writer.write(text.as_bytes())?;
     Ok(ended)
 }
 
-// Answers one more line by a thread a hand, and returns whether more may come. After a stop the hands are given up.
+// Replies to one more line by one thread for each hand, and returns whether more may come. After a stop the hands are
+// dropped.
 fn serve_line_with<
     H: LoadRules + Send + Drop,
     T: Threads + Wait + Sync,
@@ -191,18 +193,18 @@ fn serve_line_with<
         return Ok(false);
     }
     let lent = mem::replace(hands, Vec::new(alloc));
-    let (back, text) = answer_with(runtime, alloc, session, journal, line, lent, budget)?;
+    let (back, text) = reply_to_line_with(runtime, alloc, session, journal, line, lent, budget)?;
     *hands = back;
     writer.write(text.as_bytes())?;
     Ok(ended)
 }
 
-/// Answers all lines of the reader up to its first end, one at a time, beginning with no files. Each answer is written
-/// before more is read. A request has at most `budget` turns of node functions.
+/// Replies to all lines of the reader up to its first end, one at a time, beginning with no files. Each reply is
+/// written before more is read. A request may take at most `budget` turns of node functions.
 ///
-/// On Ok the reader has told its end, and the bytes written are exactly the answers to the bytes read. `journal`, which
-/// had no runs before, took those of the lines. Each item is justified, none is missing, and no request has more turns
-/// than `budget`. After any stop what was written is a beginning of the answers.
+/// On Ok the reader has reported its end, and the bytes written are exactly the replies to the bytes read. `journal`,
+/// which had no runs before, took those of the lines. Each item is justified, none is missing, and no request has more
+/// turns than `budget`. After any stop what was written is a beginning of the replies.
 pub fn serve_into<R: Input, W: Output, J: Runs>(
     alloc: Global,
     reader: &mut R,
@@ -237,12 +239,12 @@ pub fn serve_into<R: Input, W: Output, J: Runs>(
     Ok(())
 }
 
-/// Answers all lines of the reader up to its first end, one at a time, beginning with no files. Each answer is written
-/// before more is read. A request has at most `budget` turns of node functions.
+/// Replies to all lines of the reader up to its first end, one at a time, beginning with no files. Each reply is
+/// written before more is read. A request may take at most `budget` turns of node functions.
 ///
-/// On Ok the reader has told its end, and the bytes written are exactly the answers to the bytes read. The journal has
-/// the runs of the lines. Each item is justified, none is missing, and no request has more turns than `budget`. After
-/// any stop what was written is a beginning of the answers.
+/// On Ok the reader has reported its end, and the bytes written are exactly the replies to the bytes read. The journal
+/// has the runs of the lines. Each item is justified, none is missing, and no request has more turns than `budget`.
+/// After any stop what was written is a beginning of the replies.
 pub fn serve_here<R: Input, W: Output>(
     alloc: Global,
     reader: &mut R,
@@ -264,9 +266,9 @@ pub fn serve_here<R: Input, W: Output>(
     Ok(journal)
 }
 
-/// Serves as `serve_into` does, by one thread a hand, the caller's among them. Each keeps its hand over all requests, and
-/// on Ok the hands come back, their turns grown by those of the journal. After a stop they are given up. That there are
-/// 1 to 16 hands is the caller's condition.
+/// Serves as `serve_into` does, by one thread for each hand, one of which is the caller's. Each thread keeps its hand
+/// over all requests, and on Ok the hands are returned, their turns grown by those of the journal. After a stop they
+/// are dropped.
 pub fn serve_with<
     H: LoadRules + Send + Drop,
     T: Threads + Wait + Sync,
@@ -316,11 +318,11 @@ pub fn serve_with<
     Ok(crew)
 }
 
-/// Serves as `serve_here` does, by one thread a hand, the caller's among them. Each hand is kept over all requests and
-/// comes back with the journal. On Ok the bytes written are the answers that one thread gets by evaluating the present
-/// files from nothing. The order in which threads take and make turns does not matter. Each run in the journal is of a
-/// node never settled before, or with a recorded dependency whose value has differed since. The hands' turns have grown
-/// by the journal's. After a stop the hands are given up. That there are 1 to 16 hands is the caller's condition.
+/// Serves as `serve_here` does, by one thread for each hand, one of which is the caller's. Each hand is kept over all
+/// requests and is returned with the journal. On Ok the bytes written are the replies that one thread gets by
+/// evaluating the present files from scratch. The order in which threads take and make turns does not matter. Each run
+/// in the journal is of a node never settled before, or with a recorded dependency whose value has differed since. The
+/// hands' turns have grown by the journal's. After a stop the hands are dropped.
 pub fn serve<H: LoadRules + Send + Drop, T: Threads + Wait + Sync, R: Input, W: Output>(
     runtime: &T,
     alloc: Global,
@@ -348,7 +350,7 @@ pub fn serve<H: LoadRules + Send + Drop, T: Threads + Wait + Sync, R: Input, W: 
     Ok((back, journal))
 }
 
-/// Turns of node functions that one request may have.
+/// The turns of node functions that one request may take.
 pub const BUDGET: u64 = 10_000_000;
 
 // Reads the words of the program.
@@ -381,7 +383,7 @@ fn read_words<'a, S: AsStr>(alloc: Global, words: &'a [S]) -> Result<ArgMatches<
     loader.try_get_matches_from(words)
 }
 
-// Returns whether the words want the journal.
+// Returns whether the words ask for the journal.
 fn wants_runs(matches: &ArgMatches<'_>) -> bool {
     match matches.subcommand() {
         Some((_, run)) => run.get_flag("runs"),
@@ -389,7 +391,7 @@ fn wants_runs(matches: &ArgMatches<'_>) -> bool {
     }
 }
 
-// Returns the file to which the words want events.
+// Returns the file to which the words send events.
 fn events_of<'a>(matches: &'a ArgMatches<'_>) -> Option<&'a str> {
     match matches.subcommand() {
         Some((_, run)) => run.get_str("events"),
@@ -397,7 +399,7 @@ fn events_of<'a>(matches: &'a ArgMatches<'_>) -> Option<&'a str> {
     }
 }
 
-// Returns how many workers the words want.
+// Returns how many workers the words ask for.
 fn workers_of(matches: &ArgMatches<'_>) -> usize
     ensures { (1 ≤ result) × (result ≤ 16) }
 {
@@ -408,7 +410,7 @@ fn workers_of(matches: &ArgMatches<'_>) -> usize
     usize::from(told).max(1).min(16)
 }
 
-// Makes so many hands, which have made no turn.
+// Makes this many hands, which have made no turn.
 fn hands_of(alloc: Global, count: usize) -> Result<Vec<Loading>, AllocError>
     ensures { IfOk result (λ hands. length hands.items ≡ count) }
 {
@@ -419,9 +421,9 @@ fn hands_of(alloc: Global, count: usize) -> Result<Vec<Loading>, AllocError>
     Ok(hands)
 }
 
-// Writes a line for each item of a journal: `read V KEY` for a leaf that was read at version V, and else `run V KEY`. A
-// fault of `errors` is passed over.
-fn tell_runs<E: Write>(alloc: Global, errors: &mut E, journal: &[Run]) -> Result<(), Memory> {
+// Writes a line for each item of a journal: `read V KEY` for a leaf that was read at version V, and `run V KEY` for any
+// other node. A fault of `errors` is ignored.
+fn print_journal<E: Write>(alloc: Global, errors: &mut E, journal: &[Run]) -> Result<(), Memory> {
     for run in journal {
         let key = run.key.text(alloc)?;
         let word = if is_leaf(&run.key) { "read" } else { "run" };
@@ -430,15 +432,15 @@ fn tell_runs<E: Write>(alloc: Global, errors: &mut E, journal: &[Run]) -> Result
     Ok(())
 }
 
-// Tells why serving stopped, and returns the exit status. A fault of `errors` is passed over.
-fn tell_stop<E: Write>(errors: &mut E, stop: &ServeStop) -> u8
+// Writes why serving stopped, and returns the exit status. A fault of `errors` is ignored.
+fn print_stop<E: Write>(errors: &mut E, stop: &ServeStop) -> u8
     ensures { result ≡ 3 }
 {
     let _ = writeln!(errors, "stop: {stop}");
     3
 }
 
-// Serves on one thread, or by so many.
+// Serves on one thread, or on this many.
 fn serve_lines<T: Threads + Wait + Sync, R: Input, W: Output, J: Runs>(
     runtime: &T,
     alloc: Global,
@@ -465,7 +467,7 @@ fn serve_lines<T: Threads + Wait + Sync, R: Input, W: Output, J: Runs>(
     Ok(())
 }
 
-// Serves, tells a stop, and returns the exit status.
+// Serves, writes why it stopped, and returns the exit status.
 fn serve_to<T: Threads + Wait + Sync, R: Input, W: Output, E: Write, J: Runs>(
     runtime: &T,
     alloc: Global,
@@ -488,24 +490,24 @@ fn serve_to<T: Threads + Wait + Sync, R: Input, W: Output, E: Write, J: Runs>(
 {
     match serve_lines(runtime, alloc, count, reader, writer, journal) {
         Ok(()) => 0,
-        Err(stop) => tell_stop(errors, &stop),
+        Err(stop) => print_stop(errors, &stop),
     }
 }
 
-// Tells the journal of a serving that ended with this status, and returns the exit status.
+// Writes the journal of a serving that ended with this status, and returns the exit status.
 fn tell_after<E: Write>(alloc: Global, errors: &mut E, journal: &[Run], status: u8) -> u8
     ensures { (result ≡ status) ⊎ (result ≡ 3) }
 {
     if status != 0 {
         return status;
     }
-    match tell_runs(alloc, errors, journal) {
+    match print_journal(alloc, errors, journal) {
         Ok(()) => 0,
-        Err(error) => tell_stop(errors, &ServeStop::Memory(error)),
+        Err(error) => print_stop(errors, &ServeStop::Memory(error)),
     }
 }
 
-// Serves, tells the journal, and returns the exit status.
+// Serves, writes the journal, and returns the exit status.
 fn serve_and_tell<T: Threads + Wait + Sync, R: Input, W: Output, E: Write>(
     runtime: &T,
     alloc: Global,
@@ -552,14 +554,14 @@ fn serve_alone<T: Threads + Wait + Sync, R: Input, W: Output, E: Write>(
     serve_to(runtime, alloc, count, reader, writer, errors, &mut runs)
 }
 
-// Tells that a write of an event failed, if one did. A fault of `errors` is passed over.
+// Writes that a write of an event failed, if one did. A fault of `errors` is ignored.
 fn tell_failure<E: Write>(errors: &mut E, has_failed: bool) {
     if has_failed {
         let _ = writeln!(errors, "events: write");
     }
 }
 
-// Serves with events to a file, and returns the exit status. With `wants_runs` it tells the journal too.
+// Serves with events to a file, and returns the exit status. With `wants_runs` it writes the journal too.
 fn serve_events<T: Threads + Wait + Sync, R: Input, W: Output, E: Write, F: Write + Drop>(
     runtime: &T,
     alloc: Global,
@@ -595,14 +597,14 @@ fn serve_events<T: Threads + Wait + Sync, R: Input, W: Output, E: Write, F: Writ
 }
 
 /// Runs the program `loader`: `words` are its words, its own name first. It serves the lines of `reader` to `writer`
-/// and returns the exit status. The status is 0 if the reader has told its end. The flag `--runs` then tells the
-/// journal on `errors`, one line an item, `run V KEY` or for a leaf `read V KEY`. The status is 2 for bad words, found
-/// before any input is read, with the text of the fault on `errors`. It is 3 for a stop, with a line `stop: read`,
-/// `stop: write`, `stop: budget` or `stop: memory` on `errors`. A fault of `errors` is passed over.
+/// and returns the exit status. The status is 0 if the reader has reported its end. The flag `--runs` then writes the
+/// journal to `errors`, one line for each item, `run V KEY` or for a leaf `read V KEY`. The status is 2 for bad words,
+/// found before any input is read, with the text of the fault on `errors`. It is 3 for a stop, with a line
+/// `stop: read`, `stop: write`, `stop: budget` or `stop: memory` on `errors`. A fault of `errors` is ignored.
 ///
-/// With `--events FILE` it writes a line of JSON to FILE for each line of the input, before the answer goes out. A file
+/// With `--events FILE` it writes a line of JSON to FILE for each line of the input, before the reply goes out. A file
 /// that cannot be made is a bad word. Once a write to it has failed no more events are written, and at the end a line
-/// `events: write` on `errors` tells so; the status stays what it is.
+/// `events: write` is written to `errors`; the status stays what it is.
 pub fn command<T: Threads + Wait + Sync + Files, S: AsStr, R: Input, W: Output, E: Write>(
     runtime: &T,
     alloc: Global,

@@ -1,38 +1,40 @@
-//! The session: the present files with the graph of what was found out about them, their edits, and the answers to lines.
+//! The session: the present files with the graph of what was found out about them, their edits, and the replies to
+//! lines.
 ghost use Rattle.std.specs.Prelude.{◌≡◌, ◌≤◌, ◌+◌, ◌++◌, ◌∷◌, [], Ok, IfOk, OnOk, OnErr, length, string_bytes, List, ℕ, option_and_then, option_map, codes as text_codes, false};
 ghost use Rattle.serde_json.specs.View.{view as json_view};
 ghost use Rattle.serde_json.specs.Written.{compact_text, has_float};
 ghost use Rattle.board.specs.Rule.{total};
-ghost use Rattle.evaluation.specs.Graph.{Marks};
+ghost use Rattle.engine_semantics.specs.Graph.{MarksDirty};
 ghost use Rattle.node.specs.Graphs.{record_at, IsTouched};
 ghost use Rattle.functions.specs.Next.{next};
 ghost use Rattle.keys.specs.Leaves.{read};
-ghost use Rattle.open_nodes.specs.TurnCounts.{turns_of};
+ghost use Rattle.round_nodes.specs.TurnCounts.{turns_of};
 ghost use Rattle.round.specs.Call.{Calls};
-ghost use Rattle.lines.specs.Lines.{Keeps};
+ghost use Rattle.base_lines.specs.Lines.{HoldsLine};
 ghost use Rattle.loader.specs.Answers as answers;
-ghost use Rattle.loader.specs.Effects.{AreHeld, Moves, StopsAfter, StopsRequest, evaluations, request_effect, told_roots};
+ghost use Rattle.loader.specs.Effects.{AreSettled, Performs, StopsAfter, StopsRequest, evaluations, request_effect, reply_roots};
 ghost use Rattle.loader.specs.State as state;
-ghost use Rattle.loader.specs.Sessions.{SessionView, state_of, files_of, paths_of, IsLawful};
+ghost use Rattle.loader.specs.Sessions.{SessionView, state_of, files_of, paths_of, IsConsistent};
 ghost use Rattle.loader.specs.LineAnswers.{AddsLine, Begins, IsOneMore};
-ghost use Rattle.commands.specs.View.{edit_seen, request_seen};
-ghost use Rattle.commands.specs.Commands as commands;
-ghost use Rattle.commands.specs.Refusals.{request_refusal};
+ghost use Rattle.loader_commands.specs.View.{edit_seen, request_seen};
+ghost use Rattle.loader_commands.specs.Commands as commands;
+ghost use Rattle.loader_commands.specs.Refusals.{request_refusal};
 
 use crate::journal::Runs;
-use crate::request_answers::{later_roots, roots_of, told};
-use crate::turns::{joined, turns_left};
+use crate::request_answers::{later_roots, reply_text, roots_of};
+use crate::turns::{concat_runs, turns_left};
 use crate::workers::evaluate_with;
-use commands::{
-    Command, Edit, EditError, EditLog, Request, command_of, data_of, edit_files, edited_paths,
-    refusal, refusal_at_limit,
-};
-use events::{LineFacts, LineOutcome, edit_word, request_word};
+use base_lines::Line;
+use base_types::Memory;
 use filetree::Tree;
 use filetree::refusals::{LINE_TOO_LONG, NO_COMMAND};
 use functions::{LoadRules, Loading};
 use keys::{BuildName, Key};
-use lines::Line;
+use loader_commands::{
+    Command, Edit, EditError, EditLog, Request, command_of, data_of, edit_files, edited_paths,
+    refusal, refusal_at_limit,
+};
+use loader_events::{LineFacts, LineOutcome, edit_word, request_word};
 use node::Graph;
 use round::{Run, Stop, evaluate_here};
 use serde_json::{Value, json};
@@ -40,23 +42,22 @@ use std::alloc::Global;
 use std::marker::Model;
 use std::sync::Wait;
 use std::thread::Threads;
-use texts::Memory;
 
 mod holding;
 mod publishing;
 
-/// What is answered to a request.
+/// The reply to a request.
 #[derive(Drop)]
 pub struct Reply {
-    /// The line that answers it, without its byte 10.
+    /// The line that replies to it, without its byte 10.
     pub text: String,
     /// What its evaluation read and ran, in the order in which it was settled. A refused request is not evaluated.
     pub runs: Vec<Run>,
 }
 
 /// The present files, and the graph of what earlier requests found out about them. A contract sees the graph, and the
-/// history for which it is lawful: the version at which the session began, without files, and the edits accepted since
-/// then; what they lead to are the present files.
+/// history for which it is consistent: the version at which the session began, without files, and the edits accepted
+/// since then. The present files are those to which these edits lead.
 #[derive(Drop)]
 pub struct Session {
     alloc: Global,
@@ -68,7 +69,7 @@ pub struct Session {
 
 impl Model for Session {
     ghost use Rattle.std.specs.Prelude.{◌≡◌};
-    ghost use Rattle.loader.specs.Sessions.{SessionView, IsLawful, files_of};
+    ghost use Rattle.loader.specs.Sessions.{SessionView, IsConsistent, files_of};
 
     ghost Value = { SessionView };
 
@@ -81,7 +82,7 @@ impl Model for Session {
 
     ghost use Rattle.filetree.specs.Lawful.{HasPaths};
 
-    ghost invariant = { λ s. (s.tree ≡ files_of (record { began = s.began; edits = s.accepted; graph = s.graph })) × IsLawful (record { began = s.began; edits = s.accepted; graph = s.graph }) × HasPaths s.tree };
+    ghost invariant = { λ s. (s.tree ≡ files_of (record { began = s.began; edits = s.accepted; graph = s.graph })) × IsConsistent (record { began = s.began; edits = s.accepted; graph = s.graph }) × HasPaths s.tree };
 }
 
 impl Session {
@@ -90,7 +91,7 @@ impl Session {
         ensures state { state_of result ≡ state.start }
         ensures history { (result.began ≡ 0) × (result.edits ≡ []) }
         ensures records { result.graph.records ≡ [] }
-        ensures lawful { IsLawful result }
+        ensures lawful { IsConsistent result }
     {
         Session::new_at(alloc, 0)
     }
@@ -100,7 +101,7 @@ impl Session {
         ensures state { state_of result ≡ state.start_at version }
         ensures history { (result.began ≡ version) × (result.edits ≡ []) }
         ensures records { result.graph.records ≡ [] }
-        ensures lawful { IsLawful result }
+        ensures lawful { IsConsistent result }
     {
         Session {
             alloc,
@@ -118,84 +119,84 @@ impl Session {
         self.graph.version()
     }
 
-    /// Makes an edit, and returns the new version: one more, also for a batch. The records that reach a leaf which the
-    /// edit touches are marked as dirty. An edit that is refused changes nothing. The records that it reaches are found
-    /// out first, then the files are changed in place, and the marks take no memory.
+    /// Makes an edit, and returns the new version, which is one more, also for a batch. The records that reach a leaf
+    /// which the edit touches are marked dirty. An edit that is refused changes nothing. The records that it reaches
+    /// are found first, then the files are changed in place, and marking records dirty takes no memory.
     pub fn apply(&mut self, edit: &Edit<'_>) -> Result<u32, EditError>
         ensures applies { state.Applies (edit_seen edit.now) (state_of self.old) (state_of self.new)
             result }
         ensures history { OnOk result ((self.new.began ≡ self.old.began)
             × (self.new.edits ≡ self.old.edits ++ edit_seen edit.now ∷ [])) }
-        ensures marks { OnOk result (Marks (record_at self.old.graph) (record_at self.new.graph)
-            (IsTouched (paths_of (edit_seen edit.now)))) }
-        ensures lawful { IsLawful self.new }
+        ensures marks { OnOk result (MarksDirty (record_at self.old.graph) (record_at
+            self.new.graph) (IsTouched (paths_of (edit_seen edit.now)))) }
+        ensures lawful { IsConsistent self.new }
         ensures refused { OnErr result (self.new ≡ self.old) }
     {
         if self.graph.version() == u32::MAX {
             return Err(refusal_at_limit(&self.tree, edit));
         }
         let paths = edited_paths(self.alloc, edit)?;
-        let reached = self.graph.reached_by(paths.as_slice())?;
+        let reached = self.graph.keys_to_dirty(paths.as_slice())?;
         edit_files(&mut self.tree, edit)?;
-        let version = self.graph.mark(reached.as_slice());
+        let version = self.graph.mark_dirty(reached.as_slice());
         self.accepted.add(edit);
         Ok(version)
     }
 
-    /// Answers a request by its evaluation over the graph, in at most `budget` turns, and tells what that ran. A graph
-    /// that is lawful stays so, and each run is justified. The files stay as they are, and after a stop too a later
-    /// request is answered as from nothing.
+    /// Replies to a request by its evaluation over the graph, in at most `budget` turns, and returns what that ran. A
+    /// graph that is consistent stays so, and each run is justified. The files stay as they are, and even after a stop
+    /// a later request gets the reply that an evaluation from scratch gives.
     pub fn request(&mut self, request: &Request<'_>, budget: u64) -> Result<Reply, Stop>
         ensures text { IfOk result
             (λ reply. answers.Tells (answers.IsRequestAnswer (request_seen request.now)
             (files_of self.old)) (string_bytes reply.text)) }
-        ensures held { OnOk result (request_refusal (request_seen request.now) ≡ None → AreHeld
-            (files_of self.old) (told_roots (request_seen request.now) (files_of self.old))
+        ensures held { OnOk result (request_refusal (request_seen request.now) ≡ None → AreSettled
+            (files_of self.old) (reply_roots (request_seen request.now) (files_of self.old))
             self.new.graph) }
         ensures moves { IfOk result
-            (λ reply. Moves (request_effect (request_seen request.now) (state_of self.old)) self.old
-            self.new reply.runs.items) }
+            (λ reply. Performs (request_effect (request_seen request.now) (state_of self.old))
+            self.old self.new reply.runs.items) }
         ensures turns { IfOk result (λ reply. turns_of reply.runs.items ≤ budget) }
         ensures stopped { OnErr result (StopsRequest (request_seen request.now) self.old self.new) }
         ensures history { (self.new.began ≡ self.old.began) × (self.new.edits ≡ self.old.edits) }
         ensures version { self.new.graph.version ≡ self.old.graph.version }
-        ensures lawful { IsLawful self.new }
+        ensures lawful { IsConsistent self.new }
     {
         if let Some(n) = refusal(self.alloc, request)? {
             return Ok(Reply {
-                text: refused(self.alloc, n)?,
+                text: refusal_text(self.alloc, n)?,
                 runs: Vec::new(self.alloc),
             });
         }
         self.reply_to(request, budget)
     }
 
-    // Answers a request that is not refused, as `request` does.
+    // Replies to a request that is not refused, as `request` does.
     fn reply_to(&mut self, request: &Request<'_>, budget: u64) -> Result<Reply, Stop>
         requires { request_refusal (request_seen request.now) ≡ None }
         ensures text { IfOk result
             (λ reply. answers.Tells (answers.IsRequestAnswer (request_seen request.now)
             (files_of self.old)) (string_bytes reply.text)) }
-        ensures held { OnOk result (AreHeld (files_of self.old)
-            (told_roots (request_seen request.now) (files_of self.old)) self.new.graph) }
+        ensures held { OnOk result (AreSettled (files_of self.old)
+            (reply_roots (request_seen request.now) (files_of self.old)) self.new.graph) }
         ensures moves { IfOk result
-            (λ reply. Moves (request_effect (request_seen request.now) (state_of self.old)) self.old
-            self.new reply.runs.items) }
+            (λ reply. Performs (request_effect (request_seen request.now) (state_of self.old))
+            self.old self.new reply.runs.items) }
         ensures turns { IfOk result (λ reply. turns_of reply.runs.items ≤ budget) }
         ensures stopped { OnErr result (StopsRequest (request_seen request.now) self.old self.new) }
         ensures history { (self.new.began ≡ self.old.began) × (self.new.edits ≡ self.old.edits) }
         ensures version { self.new.graph.version ≡ self.old.graph.version }
-        ensures lawful { IsLawful self.new }
+        ensures lawful { IsConsistent self.new }
     {
         let alloc = self.alloc;
-        let (roots, runs) = self.evaluated(request, budget)?;
-        let text = told(alloc, &self.graph, request, roots.as_slice())?;
+        let (roots, runs) = self.evaluate_request(request, budget)?;
+        let text = reply_text(alloc, &self.graph, request, roots.as_slice())?;
         Ok(Reply { text, runs })
     }
 
-    /// Answers a request as `request` does, by one thread a hand, the caller's too. Returns the hands too, whose
-    /// turns have grown by those of the reply's runs. The answer does not hang on the order in which the threads make
-    /// their turns. After a stop the hands are given up. That there are 1 to 16 hands is the caller's condition.
+    /// Replies to a request as `request` does, by one thread for each hand, one of which is the caller's. Returns the
+    /// hands too, whose turns have grown by those of the reply's runs. The reply does not depend on the order in which
+    /// the threads make their turns. After a stop the hands are dropped.
     pub fn request_with<R: LoadRules + Send + Drop, T: Threads + Wait + Sync>(
         &mut self,
         runtime: &T,
@@ -211,21 +212,21 @@ impl Session {
         ensures text { IfOk result
             (λ done. answers.Tells (answers.IsRequestAnswer (request_seen request.now)
             (files_of self.old)) (string_bytes done.1.text)) }
-        ensures held { OnOk result (request_refusal (request_seen request.now) ≡ None → AreHeld
-            (files_of self.old) (told_roots (request_seen request.now) (files_of self.old))
+        ensures held { OnOk result (request_refusal (request_seen request.now) ≡ None → AreSettled
+            (files_of self.old) (reply_roots (request_seen request.now) (files_of self.old))
             self.new.graph) }
         ensures moves { IfOk result
-            (λ done. Moves (request_effect (request_seen request.now) (state_of self.old)) self.old
-            self.new done.1.runs.items) }
+            (λ done. Performs (request_effect (request_seen request.now) (state_of self.old))
+            self.old self.new done.1.runs.items) }
         ensures turns { IfOk result (λ done. turns_of done.1.runs.items ≤ budget) }
         ensures stopped { OnErr result (StopsRequest (request_seen request.now) self.old self.new) }
         ensures history { (self.new.began ≡ self.old.began) × (self.new.edits ≡ self.old.edits) }
         ensures version { self.new.graph.version ≡ self.old.graph.version }
-        ensures lawful { IsLawful self.new }
+        ensures lawful { IsConsistent self.new }
     {
         if let Some(n) = refusal(self.alloc, request)? {
             let reply = Reply {
-                text: refused(self.alloc, n)?,
+                text: refusal_text(self.alloc, n)?,
                 runs: Vec::new(self.alloc),
             };
             return Ok((hands, reply));
@@ -233,7 +234,7 @@ impl Session {
         self.reply_to_with(runtime, request, hands, budget)
     }
 
-    // Answers a request that is not refused, as `request_with` does.
+    // Replies to a request that is not refused, as `request_with` does.
     fn reply_to_with<R: LoadRules + Send + Drop, T: Threads + Wait + Sync>(
         &mut self,
         runtime: &T,
@@ -250,42 +251,42 @@ impl Session {
         ensures text { IfOk result
             (λ done. answers.Tells (answers.IsRequestAnswer (request_seen request.now)
             (files_of self.old)) (string_bytes done.1.text)) }
-        ensures held { OnOk result (AreHeld (files_of self.old)
-            (told_roots (request_seen request.now) (files_of self.old)) self.new.graph) }
+        ensures held { OnOk result (AreSettled (files_of self.old)
+            (reply_roots (request_seen request.now) (files_of self.old)) self.new.graph) }
         ensures moves { IfOk result
-            (λ done. Moves (request_effect (request_seen request.now) (state_of self.old)) self.old
-            self.new done.1.runs.items) }
+            (λ done. Performs (request_effect (request_seen request.now) (state_of self.old))
+            self.old self.new done.1.runs.items) }
         ensures turns { IfOk result (λ done. turns_of done.1.runs.items ≤ budget) }
         ensures stopped { OnErr result (StopsRequest (request_seen request.now) self.old self.new) }
         ensures history { (self.new.began ≡ self.old.began) × (self.new.edits ≡ self.old.edits) }
         ensures version { self.new.graph.version ≡ self.old.graph.version }
-        ensures lawful { IsLawful self.new }
+        ensures lawful { IsConsistent self.new }
     {
         let alloc = self.alloc;
-        let (hands, roots, runs) = self.evaluated_with(runtime, request, hands, budget)?;
-        let line = told(alloc, &self.graph, request, roots.as_slice())?;
+        let (hands, roots, runs) = self.evaluate_request_with(runtime, request, hands, budget)?;
+        let line = reply_text(alloc, &self.graph, request, roots.as_slice())?;
         Ok((hands, Reply { text: line, runs }))
     }
 
-    // Evaluates what a request asks for, and then the packages that it names, both in one budget. Returns the keys of
-    // which the answer tells, and what both ran.
-    fn evaluated(
+    // Evaluates what a request asks for, and then the packages that it names, both in one budget. Returns the keys that
+    // the reply is about, and what both ran.
+    fn evaluate_request(
         &mut self,
         request: &Request<'_>,
         budget: u64,
     ) -> Result<(Vec<Key>, Vec<Run>), Stop>
-        ensures roots { IfOk result (λ done. done.0.items ≡ told_roots (request_seen request.now)
+        ensures roots { IfOk result (λ done. done.0.items ≡ reply_roots (request_seen request.now)
             (files_of self.old)) }
         ensures held { IfOk result
-            (λ done. AreHeld (files_of self.old) done.0.items self.new.graph) }
+            (λ done. AreSettled (files_of self.old) done.0.items self.new.graph) }
         ensures moves { IfOk result
-            (λ done. Moves (evaluations (request_seen request.now) (state_of self.old)) self.old
+            (λ done. Performs (evaluations (request_seen request.now) (state_of self.old)) self.old
             self.new done.1.items) }
         ensures turns { IfOk result (λ done. turns_of done.1.items ≤ budget) }
         ensures stopped { OnErr result (StopsRequest (request_seen request.now) self.old self.new) }
         ensures history { (self.new.began ≡ self.old.began) × (self.new.edits ≡ self.old.edits) }
         ensures version { self.new.graph.version ≡ self.old.graph.version }
-        ensures lawful { IsLawful self.new }
+        ensures lawful { IsConsistent self.new }
     {
         let roots = roots_of(self.alloc, request)?;
         let runs = self.settle(roots.as_slice(), budget)?;
@@ -294,12 +295,12 @@ impl Session {
         };
         let left = turns_left(budget, runs.as_slice());
         let more = self.settle(later.as_slice(), left)?;
-        let all = joined(runs, more)?;
+        let all = concat_runs(runs, more)?;
         Ok((later, all))
     }
 
-    // Evaluates as `evaluated` does, by one thread a hand.
-    fn evaluated_with<R: LoadRules + Send + Drop, T: Threads + Wait + Sync>(
+    // Evaluates as `evaluate_request` does, by one thread for each hand.
+    fn evaluate_request_with<R: LoadRules + Send + Drop, T: Threads + Wait + Sync>(
         &mut self,
         runtime: &T,
         request: &Request<'_>,
@@ -311,18 +312,18 @@ impl Session {
         ensures counted { IfOk result
             (λ done. total R.turns done.0.items ≡ total R.turns hands.items
             + turns_of done.2.items) }
-        ensures roots { IfOk result (λ done. done.1.items ≡ told_roots (request_seen request.now)
+        ensures roots { IfOk result (λ done. done.1.items ≡ reply_roots (request_seen request.now)
             (files_of self.old)) }
         ensures held { IfOk result
-            (λ done. AreHeld (files_of self.old) done.1.items self.new.graph) }
+            (λ done. AreSettled (files_of self.old) done.1.items self.new.graph) }
         ensures moves { IfOk result
-            (λ done. Moves (evaluations (request_seen request.now) (state_of self.old)) self.old
+            (λ done. Performs (evaluations (request_seen request.now) (state_of self.old)) self.old
             self.new done.2.items) }
         ensures turns { IfOk result (λ done. turns_of done.2.items ≤ budget) }
         ensures stopped { OnErr result (StopsRequest (request_seen request.now) self.old self.new) }
         ensures history { (self.new.began ≡ self.old.began) × (self.new.edits ≡ self.old.edits) }
         ensures version { self.new.graph.version ≡ self.old.graph.version }
-        ensures lawful { IsLawful self.new }
+        ensures lawful { IsConsistent self.new }
     {
         let roots = roots_of(self.alloc, request)?;
         let (hands, runs) = self.settle_with(runtime, roots.as_slice(), hands, budget)?;
@@ -331,22 +332,22 @@ impl Session {
         };
         let left = turns_left(budget, runs.as_slice());
         let (hands, more) = self.settle_with(runtime, later.as_slice(), hands, left)?;
-        let all = joined(runs, more)?;
+        let all = concat_runs(runs, more)?;
         Ok((hands, later, all))
     }
 
     // Evaluates keys over the graph, in at most `budget` turns, and returns what that ran. Each of them that has a
-    // value for the present files is then held with it.
+    // value for the present files then has it in the graph.
     fn settle(&mut self, roots: &[Key], budget: u64) -> Result<Vec<Run>, Stop>
         ensures law { IfOk result
             (λ runs. Calls next (read (files_of self.old)) roots.now self.old.graph self.new.graph
             (Ok runs.items)) }
         ensures turns { IfOk result (λ runs. turns_of runs.items ≤ budget) }
-        ensures held { OnOk result (AreHeld (files_of self.old) roots.now self.new.graph) }
+        ensures held { OnOk result (AreSettled (files_of self.old) roots.now self.new.graph) }
         ensures stopped { OnErr result (StopsAfter roots.now self.old self.new) }
         ensures history { (self.new.began ≡ self.old.began) × (self.new.edits ≡ self.old.edits) }
         ensures version { self.new.graph.version ≡ self.old.graph.version }
-        ensures lawful { IsLawful self.new }
+        ensures lawful { IsConsistent self.new }
     {
         let mut rules = Loading::new(self.alloc);
         let runs = evaluate_here(
@@ -360,7 +361,7 @@ impl Session {
         Ok(runs)
     }
 
-    // Evaluates keys as `settle` does, by one thread a hand.
+    // Evaluates keys as `settle` does, by one thread for each hand.
     fn settle_with<R: LoadRules + Send + Drop, T: Threads + Wait + Sync>(
         &mut self,
         runtime: &T,
@@ -377,11 +378,11 @@ impl Session {
             (λ done. Calls next (read (files_of self.old)) roots.now self.old.graph self.new.graph
             (Ok done.1.items)) }
         ensures turns { IfOk result (λ done. turns_of done.1.items ≤ budget) }
-        ensures held { OnOk result (AreHeld (files_of self.old) roots.now self.new.graph) }
+        ensures held { OnOk result (AreSettled (files_of self.old) roots.now self.new.graph) }
         ensures stopped { OnErr result (StopsAfter roots.now self.old self.new) }
         ensures history { (self.new.began ≡ self.old.began) × (self.new.edits ≡ self.old.edits) }
         ensures version { self.new.graph.version ≡ self.old.graph.version }
-        ensures lawful { IsLawful self.new }
+        ensures lawful { IsConsistent self.new }
     {
         let done = evaluate_with(
             runtime,
@@ -396,33 +397,33 @@ impl Session {
     }
 }
 
-/// Writes an answer as compact JSON.
-pub fn written(alloc: Global, answer: &Value) -> Result<String, Memory>
+/// Writes a reply as compact JSON.
+pub fn json_text(alloc: Global, answer: &Value) -> Result<String, Memory>
     ensures { IfOk result (λ text. has_float (json_view answer.now) ≡ false → string_bytes text
         ≡ compact_text (json_view answer.now)) }
 {
     Ok(answer.to_string(alloc)?)
 }
 
-/// Makes the answer that tells a refusal.
+/// Makes the reply for a refusal.
 pub fn refused_answer(alloc: Global, n: u64) -> Result<Value, Memory>
-    ensures { IfOk result (λ value. json_view value ≡ answers.refused n) }
+    ensures { IfOk result (λ value. json_view value ≡ answers.refusal_reply n) }
 {
     Ok(json!(in alloc; {"refused": n})?)
 }
 
 fn accepted_answer(alloc: Global, version: u32) -> Result<Value, Memory>
-    ensures { IfOk result (λ value. json_view value ≡ answers.accepted version) }
+    ensures { IfOk result (λ value. json_view value ≡ answers.accepted_reply version) }
 {
     Ok(json!(in alloc; {"ok": version})?)
 }
 
-/// Returns the text of the answer that tells a refusal.
-pub fn refused(alloc: Global, n: u64) -> Result<String, Memory>
-    ensures { IfOk result (λ text. string_bytes text ≡ compact_text (answers.refused n)) }
+/// Returns the text of the reply for a refusal.
+pub fn refusal_text(alloc: Global, n: u64) -> Result<String, Memory>
+    ensures { IfOk result (λ text. string_bytes text ≡ compact_text (answers.refusal_reply n)) }
 {
     let answer = refused_answer(alloc, n)?;
-    written(alloc, &answer)
+    json_text(alloc, &answer)
 }
 
 fn refused_at_answer(alloc: Global, at: usize, n: u64) -> Result<Value, Memory>
@@ -431,23 +432,24 @@ fn refused_at_answer(alloc: Global, at: usize, n: u64) -> Result<Value, Memory>
     Ok(json!(in alloc; {"edit": at, "refused": n})?)
 }
 
-/// Returns the text of the answer to a batch of which a change is refused, by its place among them.
-pub fn refused_at(alloc: Global, at: usize, n: u64) -> Result<String, Memory>
+/// Returns the text of the reply to a batch of which a change is refused, by its place among them.
+pub fn refusal_text_at(alloc: Global, at: usize, n: u64) -> Result<String, Memory>
     ensures { IfOk result (λ text. string_bytes text ≡ compact_text (answers.refused_at at n)) }
 {
     let answer = refused_at_answer(alloc, at, n)?;
-    written(alloc, &answer)
+    json_text(alloc, &answer)
 }
 
-/// Returns the text of the answer to an edit that was made.
-pub fn accepted(alloc: Global, version: u32) -> Result<String, Memory>
-    ensures { IfOk result (λ text. string_bytes text ≡ compact_text (answers.accepted version)) }
+/// Returns the text of the reply to an edit that was made.
+pub fn accepted_text(alloc: Global, version: u32) -> Result<String, Memory>
+    ensures { IfOk result (λ text. string_bytes text ≡ compact_text (answers.accepted_reply
+        version)) }
 {
     let answer = accepted_answer(alloc, version)?;
-    written(alloc, &answer)
+    json_text(alloc, &answer)
 }
 
-// Makes the answer that tells a package's build file.
+// Makes the reply with a package's build file.
 fn build_answer(alloc: Global, found: Option<BuildName>) -> Result<Value, Memory>
     ensures { IfOk result (λ value. json_view value ≡ answers.one_member (text_codes "build")
         (answers.build_text found)) }
@@ -459,25 +461,25 @@ fn build_answer(alloc: Global, found: Option<BuildName>) -> Result<Value, Memory
     }
 }
 
-/// Returns the text of the answer that tells a package's build file.
+/// Returns the text of the reply with a package's build file.
 pub fn build_text(alloc: Global, found: Option<BuildName>) -> Result<String, Memory>
     ensures { IfOk result
         (λ text. string_bytes text ≡ compact_text
         (answers.one_member (text_codes "build") (answers.build_text found))) }
 {
     let answer = build_answer(alloc, found)?;
-    written(alloc, &answer)
+    json_text(alloc, &answer)
 }
 
-// What is done for a line before anything is evaluated: it is refused, an edit is made, or it asks something of the
+// What is done for a line before anything is evaluated: it is refused, an edit is made, or it asks something about the
 // present files.
-pub(crate) enum Step<'a> {
+pub(crate) enum LineKind<'a> {
     Refused(String, LineFacts<'a>),
     Edited(String, Edit<'a>),
-    Asks(Request<'a>),
+    Request(Request<'a>),
 }
 
-// What is told of a line that was refused.
+// Makes the facts of a line that was refused.
 fn refused_facts<'a>(word: Option<&'static str>, place: Option<usize>, code: u64) -> LineFacts<'a> {
     LineFacts {
         word,
@@ -486,19 +488,26 @@ fn refused_facts<'a>(word: Option<&'static str>, place: Option<usize>, code: u64
 }
 
 // Makes an edit, or refuses it.
-fn begin_edit<'a>(alloc: Global, session: &mut Session, edit: Edit<'a>) -> Result<Step<'a>, Memory>
+fn begin_edit<'a>(
+    alloc: Global,
+    session: &mut Session,
+    edit: Edit<'a>,
+) -> Result<LineKind<'a>, Memory>
     ensures begins { IfOk result (λ step. Begins (Some (commands.change (edit_seen edit.entry)))
         session.old session.new step) }
-    ensures lawful { IsLawful session.old → IsLawful session.new }
+    ensures lawful { IsConsistent session.old → IsConsistent session.new }
 {
     let word = Some(edit_word(&edit));
     match session.apply(&edit) {
-        Ok(version) => Ok(Step::Edited(accepted(alloc, version)?, edit)),
+        Ok(version) => Ok(LineKind::Edited(accepted_text(alloc, version)?, edit)),
         Err(EditError::Refused(n)) => {
-            Ok(Step::Refused(refused(alloc, n)?, refused_facts(word, None, n)))
+            Ok(LineKind::Refused(refusal_text(alloc, n)?, refused_facts(word, None, n)))
         }
         Err(EditError::RefusedAt(at, n)) => {
-            Ok(Step::Refused(refused_at(alloc, at, n)?, refused_facts(word, Some(at), n)))
+            Ok(LineKind::Refused(
+                refusal_text_at(alloc, at, n)?,
+                refused_facts(word, Some(at), n),
+            ))
         }
         Err(EditError::Memory(error)) => Err(error),
     }
@@ -509,40 +518,40 @@ fn begin_request<'a>(
     alloc: Global,
     session: &Session,
     request: Request<'a>,
-) -> Result<Step<'a>, Memory>
+) -> Result<LineKind<'a>, Memory>
     ensures { IfOk result (λ step. Begins (Some (commands.ask (request_seen request.entry)))
         session.now session.now step) }
 {
     match refusal(alloc, &request)? {
         Some(n) => {
             let facts = refused_facts(Some(request_word(&request)), None, n);
-            Ok(Step::Refused(refused(alloc, n)?, facts))
+            Ok(LineKind::Refused(refusal_text(alloc, n)?, facts))
         }
-        None => Ok(Step::Asks(request)),
+        None => Ok(LineKind::Request(request)),
     }
 }
 
-// Refuses a line that is no command.
-fn begin_refused<'a>(alloc: Global) -> Result<Step<'a>, Memory>
+// Refuses a line that is not a command.
+fn begin_refused<'a>(alloc: Global) -> Result<LineKind<'a>, Memory>
     ensures { IfOk result (λ step. (session : SessionView) → Begins None session session step) }
 {
-    Ok(Step::Refused(
-        refused(alloc, NO_COMMAND)?,
+    Ok(LineKind::Refused(
+        refusal_text(alloc, NO_COMMAND)?,
         refused_facts(None, None, NO_COMMAND),
     ))
 }
 
 // Makes the edit of a line, refuses the line, or returns the request that it asks. `value` is the line's JSON, if it is
-// any.
+// JSON.
 fn begin<'a>(
     alloc: Global,
     session: &mut Session,
     value: &'a Option<Value>,
-) -> Result<Step<'a>, Memory>
+) -> Result<LineKind<'a>, Memory>
     ensures begins { IfOk result
         (λ step. Begins (option_and_then commands.command_of (option_map json_view value.now))
         session.old session.new step) }
-    ensures lawful { IsLawful session.old → IsLawful session.new }
+    ensures lawful { IsConsistent session.old → IsConsistent session.new }
 {
     let Some(value) = value else {
         return Ok(begin_refused(alloc)?);
@@ -554,8 +563,8 @@ fn begin<'a>(
     }
 }
 
-// Returns a text with byte 10 behind it.
-fn ended(text: String) -> Result<String, Memory>
+// Returns a text with byte 10 after it.
+fn with_newline(text: String) -> Result<String, Memory>
     ensures { IfOk result (λ t. string_bytes t ≡ string_bytes text ++ 10 ∷ []) }
 {
     let mut text = text;
@@ -563,7 +572,7 @@ fn ended(text: String) -> Result<String, Memory>
     Ok(text)
 }
 
-// Tells the journal of a line that is not evaluated, and returns its answer with byte 10 behind it.
+// Passes a line that is not evaluated to the journal, and returns its reply with byte 10 after it.
 fn tell_line<J: Runs>(
     alloc: Global,
     session: &Session,
@@ -576,10 +585,10 @@ fn tell_line<J: Runs>(
     ensures told { OnOk result (IsOneMore (J.lines journal.old) (J.lines journal.new)) }
 {
     journal.add(&session.graph, facts, Vec::new(alloc))?;
-    ended(text)
+    with_newline(text)
 }
 
-// Tells the journal of a line that was evaluated, and returns its answer with byte 10 behind it.
+// Passes a line that was evaluated to the journal, and returns its reply with byte 10 after it.
 fn tell_reply<J: Runs>(
     session: &Session,
     journal: &mut J,
@@ -595,10 +604,10 @@ fn tell_reply<J: Runs>(
         outcome: LineOutcome::Evaluated,
     };
     journal.add(&session.graph, &facts, reply.runs)?;
-    ended(reply.text)
+    with_newline(reply.text)
 }
 
-// Tells the journal of an edit that was made, and returns its answer with byte 10 behind it.
+// Passes an edit that was made to the journal, and returns its reply with byte 10 after it.
 fn tell_edit<J: Runs>(
     alloc: Global,
     session: &Session,
@@ -617,9 +626,9 @@ fn tell_edit<J: Runs>(
     tell_line(alloc, session, journal, text, &facts)
 }
 
-/// Answers a line, with byte 10 behind the answer, in at most `budget` turns. `journal` is told of the line, and takes
-/// what its evaluation ran. A stop leaves the files as they were, or with the line's edit made and its answer lost.
-pub fn answer<J: Runs>(
+/// Replies to a line, with byte 10 after the reply, in at most `budget` turns. `journal` takes the facts of the line,
+/// and what its evaluation ran. A stop leaves the files as they were, or with the line's edit made and its reply lost.
+pub fn reply_to_line<J: Runs>(
     alloc: Global,
     session: &mut Session,
     journal: &mut J,
@@ -627,31 +636,31 @@ pub fn answer<J: Runs>(
     budget: u64,
 ) -> Result<String, Stop>
     ensures answer { IfOk result (λ text. (whole : List ℕ)
-        → Keeps line.now.bytes.items line.now.too_long whole → AddsLine whole budget session.old
+        → HoldsLine line.now.bytes.items line.now.too_long whole → AddsLine whole budget session.old
         session.new (string_bytes text) (J.kept journal.old) (J.kept journal.new)) }
     ensures told { OnOk result (IsOneMore (J.lines journal.old) (J.lines journal.new)) }
-    ensures lawful { IsLawful session.old → IsLawful session.new }
+    ensures lawful { IsConsistent session.old → IsConsistent session.new }
 {
     if line.too_long {
         let facts = refused_facts(None, None, LINE_TOO_LONG);
-        let text = refused(alloc, LINE_TOO_LONG)?;
+        let text = refusal_text(alloc, LINE_TOO_LONG)?;
         return Ok(tell_line(alloc, session, journal, text, &facts)?);
     }
     let value = data_of(alloc, line.bytes.as_slice())?;
     let step = begin(alloc, session, &value)?;
     match step {
-        Step::Refused(text, facts) => Ok(tell_line(alloc, session, journal, text, &facts)?),
-        Step::Edited(text, edit) => Ok(tell_edit(alloc, session, journal, text, &edit)?),
-        Step::Asks(request) => {
+        LineKind::Refused(text, facts) => Ok(tell_line(alloc, session, journal, text, &facts)?),
+        LineKind::Edited(text, edit) => Ok(tell_edit(alloc, session, journal, text, &edit)?),
+        LineKind::Request(request) => {
             let reply = session.reply_to(&request, budget)?;
             Ok(tell_reply(session, journal, &request, reply)?)
         }
     }
 }
 
-/// Answers a line as `answer` does, by one thread a hand, the caller's too. Returns the hands too. After a stop
-/// they are given up.
-pub fn answer_with<H: LoadRules + Send + Drop, T: Threads + Wait + Sync, J: Runs>(
+/// Replies to a line as `reply_to_line` does, by one thread for each hand, one of which is the caller's. Returns the
+/// hands too. After a stop they are dropped.
+pub fn reply_to_line_with<H: LoadRules + Send + Drop, T: Threads + Wait + Sync, J: Runs>(
     runtime: &T,
     alloc: Global,
     session: &mut Session,
@@ -666,26 +675,26 @@ pub fn answer_with<H: LoadRules + Send + Drop, T: Threads + Wait + Sync, J: Runs
         + turns_of (J.kept journal.old) ≡ total H.turns hands.items
         + turns_of (J.kept journal.new)) }
     ensures answer { IfOk result (λ done. (whole : List ℕ)
-        → Keeps line.now.bytes.items line.now.too_long whole → AddsLine whole budget session.old
+        → HoldsLine line.now.bytes.items line.now.too_long whole → AddsLine whole budget session.old
         session.new (string_bytes done.1) (J.kept journal.old) (J.kept journal.new)) }
     ensures told { OnOk result (IsOneMore (J.lines journal.old) (J.lines journal.new)) }
-    ensures lawful { IsLawful session.old → IsLawful session.new }
+    ensures lawful { IsConsistent session.old → IsConsistent session.new }
 {
     if line.too_long {
         let facts = refused_facts(None, None, LINE_TOO_LONG);
-        let text = refused(alloc, LINE_TOO_LONG)?;
+        let text = refusal_text(alloc, LINE_TOO_LONG)?;
         return Ok((hands, tell_line(alloc, session, journal, text, &facts)?));
     }
     let value = data_of(alloc, line.bytes.as_slice())?;
     let step = begin(alloc, session, &value)?;
     match step {
-        Step::Refused(text, facts) => {
+        LineKind::Refused(text, facts) => {
             Ok((hands, tell_line(alloc, session, journal, text, &facts)?))
         }
-        Step::Edited(text, edit) => {
+        LineKind::Edited(text, edit) => {
             Ok((hands, tell_edit(alloc, session, journal, text, &edit)?))
         }
-        Step::Asks(request) => {
+        LineKind::Request(request) => {
             let (hands, reply) = session.reply_to_with(runtime, &request, hands, budget)?;
             Ok((hands, tell_reply(session, journal, &request, reply)?))
         }

@@ -1,9 +1,9 @@
 //! Runs of two evaluations in one budget of turns.
 ghost use Rattle.std.specs.Prelude.{◌≡◌, ◌≤◌, ◌+◌, ◌++◌, IfOk};
-ghost use Rattle.open_nodes.specs.TurnCounts.{turns_of};
+ghost use Rattle.round_nodes.specs.TurnCounts.{turns_of};
 
+use base_types::Memory;
 use round::Run;
-use texts::Memory;
 
 /// Returns how many turns are left of a budget that these runs did not exceed.
 pub(crate) fn turns_left(budget: u64, runs: &[Run]) -> u64
@@ -18,7 +18,7 @@ pub(crate) fn turns_left(budget: u64, runs: &[Run]) -> u64
 }
 
 /// Returns the runs of both, in their order.
-pub(crate) fn joined(runs: Vec<Run>, more: Vec<Run>) -> Result<Vec<Run>, Memory>
+pub(crate) fn concat_runs(runs: Vec<Run>, more: Vec<Run>) -> Result<Vec<Run>, Memory>
     ensures { IfOk result (λ all. all.items ≡ runs.items ++ more.items) }
 {
     let mut all = runs;

@@ -1,9 +1,9 @@
-//! An evaluation by the node functions, with one thread a hand.
+//! An evaluation by the node functions, with one thread for each hand.
 ghost use Rattle.std.specs.Prelude.{◌≡◌, ◌+◌, ◌≤◌, length, IfOk, IfErr, Ok, Err};
 ghost use Rattle.board.specs.Rule.{total};
 ghost use Rattle.functions.specs.Next.{next};
 ghost use Rattle.keys.specs.Leaves.{read};
-ghost use Rattle.open_nodes.specs.TurnCounts.{turns_of};
+ghost use Rattle.round_nodes.specs.TurnCounts.{turns_of};
 ghost use Rattle.round.specs.Call.{Calls};
 
 use filetree::Tree;
@@ -15,7 +15,7 @@ use std::alloc::Global;
 use std::sync::Wait;
 use std::thread::Threads;
 
-/// Evaluates the roots over the graph at the files of the tree by one thread a hand, as `pool::evaluate` does.
+/// Evaluates the roots over the graph at the files of the tree by one thread for each hand, as `pool::evaluate` does.
 pub(crate) fn evaluate_with<R: LoadRules + Send + Drop, T: Threads + Wait + Sync>(
     runtime: &T,
     alloc: Global,

@@ -2,15 +2,15 @@
 use Rattle.std.proofs.Common.{◌≡◌, ◌⊎◌, inl, inr, ℕ, true, false, List, [], Option, Some, None, refl, sym, ◌∙◌, ap, subst}
 use Rattle.std.specs.Arc.{arc_value}
 use Rattle.std.specs.Option.{is_some, IsSome}
-use Rattle.evaluation.specs.Graph.{Record}
-use Rattle.evaluation.specs.Value.{AllDiffer, In, IsMember}
+use Rattle.engine_semantics.specs.Graph.{Record}
+use Rattle.engine_semantics.specs.Value.{AllDiffer, In, IsMember}
 use Rattle.keys.specs.declared.key.Key.{Key}
 use Rattle.keys.specs.declared.value.Value.{Value}
 use Rattle.node.specs.declared.entry.Entry.{Entry}
 use Rattle.node.specs.Records.{Records, Users, users_at}
-use Rattle.node.specs.Writes.{stored, groups_at, SameSets}
-use Rattle.node.specs.Graphs.{GraphView, recorded, record_at, seen, IsLinked}
-use Rattle.node.specs.Batches.{AreRecorded, asked, keys_of, HasReadyEntries, HaveMembers, SetsAll, IsThere, HasPlacedAll, HasLinkedEntries, HasLinkedEach, kept_members, HasCutAll, IsToWrite, IsWritten, HasWrittenAll, IsWriting}
+use Rattle.node.specs.Writes.{settled_record, groups_at, SameSets}
+use Rattle.node.specs.Graphs.{GraphView, recorded, record_at, records_of, IsLinked}
+use Rattle.node.specs.Batches.{AreRecorded, entry_groups, keys_of, HasReadyEntries, HaveMembers, SetsAll, IsThere, HasPlacedAll, HasLinkedEntries, HasLinkedEach, kept_members, HasCutAll, IsToWrite, IsWritten, HasWrittenAll, IsWriting}
 use Rattle.node.proofs.Lists.{not_in, none_some, some_is, true_false}
 use Rattle.node.proofs.Linking.{seen_all}
 use Rattle.node.proofs.Storing.{seen_was, stored_over}
@@ -81,10 +81,10 @@ module _ (old placed : Key → Option (Record Key Value)) (old_users middle : Us
   pub ready_to_write : AllDiffer (keys_of entries) → HasLinkedEach middle entries → (e : Entry) → In e entries → (w : Record Key Value) × IsToWrite placed middle e w
   ready_to_write d each e i = go (there.there e i)
     where
-      own : (w : Record Key Value) → placed e.key ≡ Some w → (j : Key) → In e.key (users_at middle j) → IsMember j w.groups ⊎ IsMember j (asked e)
+      own : (w : Record Key Value) → placed e.key ≡ Some w → (j : Key) → In e.key (users_at middle j) → IsMember j w.groups ⊎ IsMember j (entry_groups e)
       own w h j u = elim (edges.from j e.key u) [
         | inl a ↦ let p = same_members_back e.key j (linked.used j e.key a) in inl (subst (λ (y : Record Key Value). IsMember j y.groups) (some_is (sym p.1 ∙ h)) p.2)
-        | inr p ↦ inr (subst (λ (y : Entry). IsMember j (asked y)) (same_entry entries d p.1 i p.2) p.3)
+        | inr p ↦ inr (subst (λ (y : Entry). IsMember j (entry_groups y)) (same_entry entries d p.1 i p.2) p.3)
       ]
 
       old_has : (w : Record Key Value) → placed e.key ≡ Some w → (j : Key) → IsMember j w.groups → In e.key (users_at middle j)
@@ -95,7 +95,7 @@ module _ (old placed : Key → Option (Record Key Value)) (old_users middle : Us
 
       go : IsThere old placed e version → (w : Record Key Value) × IsToWrite placed middle e w
       go (inl t) = (t.0, to_write t.0 t.2)
-      go (inr t) = (stored None (arc_value e.value) [] version, to_write (stored None (arc_value e.value) [] version) t.1)
+      go (inr t) = (settled_record None (arc_value e.value) [] version, to_write (settled_record None (arc_value e.value) [] version) t.1)
 
   -- the entries are written
   module _ (new : Key → Option (Record Key Value)) (users : Users) (wrote : HasWrittenAll placed new middle users entries version) (ready : HasReadyEntries old entries) where
@@ -103,7 +103,7 @@ module _ (old placed : Key → Option (Record Key Value)) (old_users middle : Us
     Batch k = In k (keys_of entries)
 
     -- the record of an entry
-    of_key : (k : Key) → Batch k → (e : Entry) × In e entries × (e.key ≡ k) × (w : Record Key Value) × (new k ≡ Some (stored (Some w) (arc_value e.value) (asked e) version))
+    of_key : (k : Key) → Batch k → (e : Entry) × In e entries × (e.key ≡ k) × (w : Record Key Value) × (new k ≡ Some (settled_record (Some w) (arc_value e.value) (entry_groups e) version))
     of_key k i =
         let p = entry_of entries i in
         let q = wrote.each p.0 p.1 in
@@ -114,7 +114,7 @@ module _ (old placed : Key → Option (Record Key Value)) (old_users middle : Us
     clean k x i h = let p = of_key k i in ap (λ (y : Record Key Value). y.dirty) (some_is (sym h ∙ p.4))
 
     -- the groups of an entry's record are its own
-    asked_by : (k : Key) (x : Record Key Value) → Batch k → new k ≡ Some x → (e : Entry) × In e entries × (e.key ≡ k) × (asked e ≡ x.groups)
+    asked_by : (k : Key) (x : Record Key Value) → Batch k → new k ≡ Some x → (e : Entry) × In e entries × (e.key ≡ k) × (entry_groups e ≡ x.groups)
     asked_by k x i h = let p = of_key k i in (p.0, p.1, p.2, ap (λ (y : Record Key Value). y.groups) (some_is (sym p.4 ∙ h)))
 
     -- a key of no entry
@@ -128,7 +128,7 @@ module _ (old placed : Key → Option (Record Key Value)) (old_users middle : Us
     ]
 
     still_kept : (j : Key) (s : Record Key Value) → old j ≡ Some s → (x : Record Key Value) × (new j ≡ Some x)
-    still_kept j s h = elim (decide_in (keys_of entries) j) [ inl i ↦ let p = of_key j i in (stored (Some p.3) (arc_value p.0.value) (asked p.0) version, p.4) | inr f ↦ (s, before j f ∙ h) ]
+    still_kept j s h = elim (decide_in (keys_of entries) j) [ inl i ↦ let p = of_key j i in (settled_record (Some p.3) (arc_value p.0.value) (entry_groups p.0) version, p.4) | inr f ↦ (s, before j f ∙ h) ]
 
     -- a member of an entry's groups is an entry's key, or has a record that is not dirty
     member : (j k : Key) (x : Record Key Value) → Batch k → new k ≡ Some x → IsMember j x.groups → Batch j ⊎ ((s : Record Key Value) × (old j ≡ Some s) × (s.dirty ≡ false))
@@ -155,7 +155,7 @@ module _ (old placed : Key → Option (Record Key Value)) (old_users middle : Us
             let p = entry_of entries b in
             let q = wrote.each p.0 p.1 in
             let t = q.2 in
-            (stored (Some q.0) (arc_value p.0.value) (asked p.0) version, ap new (sym p.2) ∙ t.there, t.own j (subst (λ z. In z (users_at users j)) (sym p.2) i))
+            (settled_record (Some q.0) (arc_value p.0.value) (entry_groups p.0) version, ap new (sym p.2) ∙ t.there, t.own j (subst (λ z. In z (users_at users j)) (sym p.2) i))
         | inr f ↦ let p = linked.used j k (same_users j k f i) in (p.0, before k f ∙ p.1, p.2)
       ];
       complete = λ j k x h m. elim (decide_in (keys_of entries) k) [
@@ -168,7 +168,7 @@ module _ (old placed : Key → Option (Record Key Value)) (old_users middle : Us
       ];
       members = λ j k x h m. elim (decide_in (keys_of entries) k) [
         | inl b ↦ elim (member j k x b h m) [
-          | inl i ↦ let p = of_key j i in (stored (Some p.3) (arc_value p.0.value) (asked p.0) version, p.4)
+          | inl i ↦ let p = of_key j i in (settled_record (Some p.3) (arc_value p.0.value) (entry_groups p.0) version, p.4)
           | inr r ↦ still_kept j r.0 r.1
         ]
         | inr f ↦ let s = linked.members j k x (sym (before k f) ∙ h) m in still_kept j s.0 s.1
@@ -180,34 +180,34 @@ module _ (old placed : Key → Option (Record Key Value)) (old_users middle : Us
     }
 
     -- the record of an entry
-    entry_stored : (e : Entry) → In e entries → new e.key ≡ Some (stored (old e.key) (arc_value e.value) (asked e) version)
+    entry_stored : (e : Entry) → In e entries → new e.key ≡ Some (settled_record (old e.key) (arc_value e.value) (entry_groups e) version)
     entry_stored e i = go (there.there e i)
       where
         q : (w : Record Key Value) × (placed e.key ≡ Some w) × IsWritten new users e version w
         q = wrote.each e i
 
-        now : (w : Record Key Value) → placed e.key ≡ Some w → new e.key ≡ Some (stored (Some w) (arc_value e.value) (asked e) version)
-        now w h = let t = q.2 in t.there ∙ ap (λ o. Some (stored o (arc_value e.value) (asked e) version)) (sym q.1 ∙ h)
+        now : (w : Record Key Value) → placed e.key ≡ Some w → new e.key ≡ Some (settled_record (Some w) (arc_value e.value) (entry_groups e) version)
+        now w h = let t = q.2 in t.there ∙ ap (λ o. Some (settled_record o (arc_value e.value) (entry_groups e) version)) (sym q.1 ∙ h)
 
-        go : IsThere old placed e version → new e.key ≡ Some (stored (old e.key) (arc_value e.value) (asked e) version)
-        go (inl t) = now t.0 t.2 ∙ ap (λ o. Some (stored o (arc_value e.value) (asked e) version)) (sym t.1)
-        go (inr t) = now (stored None (arc_value e.value) [] version) t.1 ∙ ap Some (stored_over (arc_value e.value) (asked e) version) ∙ ap (λ o. Some (stored o (arc_value e.value) (asked e) version)) (sym t.0)
+        go : IsThere old placed e version → new e.key ≡ Some (settled_record (old e.key) (arc_value e.value) (entry_groups e) version)
+        go (inl t) = now t.0 t.2 ∙ ap (λ o. Some (settled_record o (arc_value e.value) (entry_groups e) version)) (sym t.1)
+        go (inr t) = now (settled_record None (arc_value e.value) [] version) t.1 ∙ ap Some (stored_over (arc_value e.value) (entry_groups e) version) ∙ ap (λ o. Some (settled_record o (arc_value e.value) (entry_groups e) version)) (sym t.0)
 
     pub sets_all : SetsAll old new entries version
     sets_all = record { there = entry_stored; others = before }
 
 -- what a contract of the graph sees of a batch
 module _ (old : Records) (version : ℕ) (was : GraphView) (b : recorded version old ≡ was) (entries : List Entry) where
-  pub ready_entries : HasReadyEntries (record_at was) entries → HasReadyEntries (seen old) entries
+  pub ready_entries : HasReadyEntries (record_at was) entries → HasReadyEntries (records_of old) entries
   ready_entries r = subst (λ (f : Key → Option (Record Key Value)). HasReadyEntries f entries) (seen_was old version was b) r
 
-  pub all_seen : (new : Records) → SetsAll (seen old) (seen new) entries version → SetsAll (record_at was) (record_at (recorded version new)) entries was.version
+  pub all_seen : (new : Records) → SetsAll (records_of old) (records_of new) entries version → SetsAll (record_at was) (record_at (recorded version new)) entries was.version
   all_seen new s =
       subst (λ (n : ℕ). SetsAll (record_at was) (record_at (recorded version new)) entries n) (ap (λ (x : GraphView). x.version) b)
       (subst (λ (f : Key → Option (Record Key Value)). SetsAll f (record_at (recorded version new)) entries version) (sym (seen_was old version was b))
-      (subst (λ (f : Key → Option (Record Key Value)). SetsAll (seen old) f entries version) (sym (seen_all new version)) s))
+      (subst (λ (f : Key → Option (Record Key Value)). SetsAll (records_of old) f entries version) (sym (seen_all new version)) s))
 
--- each entry's key is a user of the members of its record
+-- each entry's key is a reverse dependency of the members of its record
 pub are_users : (old placed : Key → Option (Record Key Value)) (users : Users) (entries : List Entry) (version : ℕ) → IsLinked old users → HasPlacedAll old placed entries version → (e : Entry) (j : Key) → IsMember j (groups_at (placed e.key)) → In e.key (users_at users j)
 are_users old placed users entries version linked there = member_users old placed users users entries version linked there (record { from = λ j k i. inl i; keeps = λ j k i. i })
 

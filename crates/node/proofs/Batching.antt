@@ -5,8 +5,8 @@ use Rattle.std.specs.Option.{option_to_list, is_some, IsSome, unwrap_or}
 use Rattle.std.proofs.lemmas.List.{map-append, append-nil, append_assoc, length-append, same_from_push}
 use Rattle.std.proofs.Math.ListN.{take-append-drop}
 use Rattle.std.proofs.Math.Seq.{take-suc, take_all}
-use Rattle.evaluation.specs.Graph.{Record}
-use Rattle.evaluation.specs.Value.{AllDiffer, In, first, after, IsMember}
+use Rattle.engine_semantics.specs.Graph.{Record}
+use Rattle.engine_semantics.specs.Value.{AllDiffer, In, first, after, IsMember}
 use Rattle.keys.specs.declared.key.Key.{Key}
 use Rattle.keys.specs.declared.value.Value.{Value}
 use Rattle.node.specs.declared.records.NodeRecord.{NodeRecord}
@@ -15,16 +15,16 @@ use Rattle.std.specs.Arc.{arc_value}
 use Rattle.std.specs.Prelude.{All, map, position}
 use Rattle.keys.specs.Keys.{key_eq}
 use Rattle.std.specs.Map.{keys_of as keys_of_records}
-use Rattle.numbered.specs.Tables.{AreDistinct}
-use Rattle.numbered.specs.Flats.{HaveNumbers, groups_in, numbers_in}
-use Rattle.numbered.proofs.Flats.{groups_back}
-use Rattle.node.specs.Records.{Records, Users, kept_at, named, users_at}
+use Rattle.node_table.specs.Tables.{AreDistinct}
+use Rattle.node_table.specs.Flats.{HaveNumbers, groups_in, numbers_in}
+use Rattle.node_table.proofs.Flats.{groups_back}
+use Rattle.node.specs.Records.{Records, Users, kept_at, keys_at, users_at}
 use Rattle.node.proofs.Numbering.{groups_below, have_numbers, same_length}
 use Rattle.node.proofs.Showing.{some_kept}
 use Rattle.node.specs.Edges.{HasLinkedSome, HasLinkedAll, HasCut, HasUsers}
-use Rattle.node.specs.Writes.{stored, groups_at}
-use Rattle.node.specs.Graphs.{Sets, seen}
-use Rattle.node.specs.Batches.{asked, keys_of, HasPlacedSome, IsThere, HasPlacedAll, HasLinkedEntries, HasLinkedEach, kept_members, HasCutAll, IsToWrite, IsWritten, IsWriting, HasReadyFlat, flats_in}
+use Rattle.node.specs.Writes.{settled_record, groups_at}
+use Rattle.node.specs.Graphs.{Sets, records_of}
+use Rattle.node.specs.Batches.{entry_groups, keys_of, HasPlacedSome, IsThere, HasPlacedAll, HasLinkedEntries, HasLinkedEach, kept_members, HasCutAll, IsToWrite, IsWritten, IsWriting, HasReadyFlat, flats_in}
 use Rattle.node.proofs.Lists.{in_split, in_left, in_right, in_one, not_in, none_of, true_false, decide_key}
 use Rattle.node.proofs.Joining.{in_taken, is_in}
 use Rattle.node.proofs.Rewriting.{decide_member}
@@ -154,7 +154,7 @@ pub all_removed : (original records : Records) → length records ≤ length ori
 all_removed original records l h = h.1 ∙ ap (λ (es : Records). original ++ es) (none_of h.0 (omega (arith, ap length h.1, length-append original h.0))) ∙ append-nil original
 
 module _ (start old new : Users) (entries : List Entry) (n : ℕ) (x : Entry) (e : x ≡ slice_index_or entries n x) (h : n < length entries)
-    (groups : List (List Key)) (g : groups ≡ asked x) (some : HasLinkedSome old new x.key (λ j. IsMember j groups)) where
+    (groups : List (List Key)) (g : groups ≡ entry_groups x) (some : HasLinkedSome old new x.key (λ j. IsMember j groups)) where
   pub entries_linked : HasLinkedEntries start old entries → HasLinkedEntries start new entries
   entries_linked l = record {
     from = λ j k i. elim (some.from j k i) [
@@ -167,7 +167,7 @@ module _ (start old new : Users) (entries : List Entry) (n : ℕ) (x : Entry) (e
   pub entries_each : HasLinkedAll new x.key (λ j. IsMember j groups) → HasLinkedEach old (take n entries) → HasLinkedEach new (take (n + 1) entries)
   entries_each all each y i j m = elim (in_taken entries n x y e h i) [
     | inl a ↦ some.keeps j y.key (each y a j m)
-    | inr q ↦ subst (λ (z : Entry). In z.key (users_at new j)) q (all j (subst (IsMember j) (sym g) (subst (λ (z : Entry). IsMember j (asked z)) (sym q) m)))
+    | inr q ↦ subst (λ (z : Entry). In z.key (users_at new j)) q (all j (subst (IsMember j) (sym g) (subst (λ (z : Entry). IsMember j (entry_groups z)) (sym q) m)))
   ]
 
 pub all_entries : (users : Users) (entries : List Entry) (n : ℕ) → length entries ≤ n → HasLinkedEach users (take n entries) → HasLinkedEach users entries
@@ -185,13 +185,13 @@ pub member_kept : (records : Key → Option (Record Key Value)) (k j : Key) → 
 member_kept records k j p = subst (λ o. IsMember j (groups_at o)) (sym p.1) p.2
 
 pub cut_step : (records : Key → Option (Record Key Value)) (start old new : Users) (entries : List Entry) (n : ℕ) (x : Entry) → x ≡ slice_index_or entries n x → n < length entries
-    → (groups keep : List (List Key)) → groups ≡ asked x → keep ≡ groups_at (records x.key) → HasCut old new x.key (λ j. IsMember j groups) (λ j. IsMember j keep)
+    → (groups keep : List (List Key)) → groups ≡ entry_groups x → keep ≡ groups_at (records x.key) → HasCut old new x.key (λ j. IsMember j groups) (λ j. IsMember j keep)
     → HasCutAll records start old (take n entries) → HasCutAll records start new (take (n + 1) entries)
 cut_step records start old new entries n x e h groups keep g p cut all = record {
   from = λ j k i. all.from j k (cut.from j k i);
   gone = λ y i j m f u. elim (in_taken entries n x y e h i) [
     | inl a ↦ all.gone y a j m f (cut.from j y.key u)
-    | inr q ↦ cut.gone j (subst (IsMember j) (sym g) (subst (λ (z : Entry). IsMember j (asked z)) (sym q) m))
+    | inr q ↦ cut.gone j (subst (IsMember j) (sym g) (subst (λ (z : Entry). IsMember j (entry_groups z)) (sym q) m))
         (λ t. f (subst (λ (z : Entry). kept_members records z.key j) q (kept_member records x.key j (subst (IsMember j) p t)))) (subst (λ (z : Entry). In z.key (users_at new j)) (sym q) u)
   ];
   kept = λ j k i m. elim (decide_key x.key k) [
@@ -200,12 +200,12 @@ cut_step records start old new entries n x e h groups keep g p cut all = record 
   ];
 }
 
--- the users of an entry that is written
-pub written_users : (records : Key → Option (Record Key Value)) (old new : Users) (e : Entry) (w : Record Key Value) → IsToWrite records old e w → (cut_groups keep : List (List Key)) → cut_groups ≡ w.groups → keep ≡ asked e
-    → HasCut old new e.key (λ j. IsMember j cut_groups) (λ j. IsMember j keep) → HasUsers old new e.key (asked e)
+-- the reverse dependencies of an entry that is written
+pub written_users : (records : Key → Option (Record Key Value)) (old new : Users) (e : Entry) (w : Record Key Value) → IsToWrite records old e w → (cut_groups keep : List (List Key)) → cut_groups ≡ w.groups → keep ≡ entry_groups e
+    → HasCut old new e.key (λ j. IsMember j cut_groups) (λ j. IsMember j keep) → HasUsers old new e.key (entry_groups e)
 written_users records old new e w t cut_groups keep g p cut = record {
   own = λ j i. elim (t.own j (cut.from j e.key i)) [
-    | inl m ↦ elim (decide_member (asked e) j) [
+    | inl m ↦ elim (decide_member (entry_groups e) j) [
       | inl a ↦ a
       | inr n ↦ absurd (cut.gone j (subst (IsMember j) (sym g) m) (λ a. n (subst (IsMember j) p a)) i)
     ]
@@ -219,8 +219,8 @@ written_users records old new e w t cut_groups keep g p cut = record {
 -- one more entry is written
 module _ (start old new : Key → Option (Record Key Value)) (start_users old_users users : Users) (entries now rest : List Entry) (x : Entry) (version : ℕ) (e : now ≡ rest ++ x ∷ [])
     (s : IsWriting start old start_users old_users entries now version)
-    (updates : Sets old new x.key (stored (old x.key) (arc_value x.value) (asked x) version))
-    (uses : HasUsers old_users users x.key (asked x)) where
+    (updates : Sets old new x.key (settled_record (old x.key) (arc_value x.value) (entry_groups x) version))
+    (uses : HasUsers old_users users x.key (entry_groups x)) where
   keys_split : keys_of now ≡ keys_of rest ++ x.key ∷ []
   keys_split = ap keys_of e ∙ map-append (λ (y : Entry). y.key) rest (x ∷ [])
 
@@ -230,8 +230,8 @@ module _ (start old new : Key → Option (Record Key Value)) (start_users old_us
   had : (w : Record Key Value) × (start x.key ≡ Some w) × IsToWrite old old_users x w
   had = s.left x x_left
 
-  changed : new x.key ≡ Some (stored (Some had.0) (arc_value x.value) (asked x) version)
-  changed = updates.there ∙ ap (λ o. Some (stored o (arc_value x.value) (asked x) version)) had.2.there
+  changed : new x.key ≡ Some (settled_record (Some had.0) (arc_value x.value) (entry_groups x) version)
+  changed = updates.there ∙ ap (λ o. Some (settled_record o (arc_value x.value) (entry_groups x) version)) had.2.there
 
   other : (k : Key) → x.key ≢ k → new k ≡ old k
   other k n = updates.others k n
@@ -277,27 +277,27 @@ module _ (start old new : Key → Option (Record Key Value)) (start_users old_us
   }
 
 -- the groups of entries, by the numbers of their members
-pub one_have : (records : Records) (x : Entry) → ((j : Key) → IsMember j (asked x) → IsSome (seen records j)) → HaveNumbers records (asked x)
-one_have records x f = have_numbers records (asked x) (λ j m. let e = some_kept (keys_of_records records) (kept_at records j) (f j m) in ap is_some e.1)
+pub one_have : (records : Records) (x : Entry) → ((j : Key) → IsMember j (entry_groups x) → IsSome (records_of records j)) → HaveNumbers records (entry_groups x)
+one_have records x f = have_numbers records (entry_groups x) (λ j m. let e = some_kept (keys_of_records records) (kept_at records j) (f j m) in ap is_some e.1)
 
 pub flats_same : (old new : Records) → keys_of_records new ≡ keys_of_records old → (entries : List Entry) → flats_in new entries ≡ flats_in old entries
-flats_same old new e entries = ap (λ (ks : List Key). map (λ (x : Entry). map (λ (g : List Key). map (λ k. unwrap_or (position (key_eq k) ks) 0) g) (asked x)) entries) e
+flats_same old new e entries = ap (λ (ks : List Key). map (λ (x : Entry). map (λ (g : List Key). map (λ k. unwrap_or (position (key_eq k) ks) 0) g) (entry_groups x)) entries) e
 
-pub flats_more : (records : Records) (entries : List Entry) (n : ℕ) (x : Entry) → x ≡ slice_index_or entries n x → n < length entries → (flats more : List (List (List ℕ))) (flat : List (List ℕ)) (groups : List (List Key)) → groups ≡ asked x
+pub flats_more : (records : Records) (entries : List Entry) (n : ℕ) (x : Entry) → x ≡ slice_index_or entries n x → n < length entries → (flats more : List (List (List ℕ))) (flat : List (List ℕ)) (groups : List (List Key)) → groups ≡ entry_groups x
     → flat ≡ map (numbers_in records) groups → more ≡ flats ++ flat ∷ [] → flats ≡ flats_in records (take n entries) → more ≡ flats_in records (take (n + 1) entries)
 flats_more records entries n x e h flats more flat groups g f p i =
     p ∙ (λ y. i y ++ (f ∙ ap (map (numbers_in records)) g) y ∷ [])
-    ∙ sym (map-append (λ (z : Entry). map (numbers_in records) (asked z)) (take n entries) (x ∷ [])) ∙ ap (flats_in records) (sym (these entries n x e h))
+    ∙ sym (map-append (λ (z : Entry). map (numbers_in records) (entry_groups z)) (take n entries) (x ∷ [])) ∙ ap (flats_in records) (sym (these entries n x e h))
 
 pub flats_last : (records : Records) (now rest : List Entry) (x : Entry) (flats more : List (List (List ℕ))) (flat : List (List ℕ)) → now ≡ rest ++ x ∷ [] → flats ≡ flats_in records now → flats ≡ more ++ flat ∷ []
-    → (more ≡ flats_in records rest) × (flat ≡ map (numbers_in records) (asked x))
+    → (more ≡ flats_in records rest) × (flat ≡ map (numbers_in records) (entry_groups x))
 flats_last records now rest x flats more flat e f p =
-    let joined : more ++ flat ∷ [] ≡ flats_in records rest ++ map (numbers_in records) (asked x) ∷ [] =
-    sym p ∙ f ∙ ap (flats_in records) e ∙ map-append (λ (z : Entry). map (numbers_in records) (asked z)) rest (x ∷ []) in
-    same_from_push more (flats_in records rest) flat (map (numbers_in records) (asked x)) joined
+    let joined : more ++ flat ∷ [] ≡ flats_in records rest ++ map (numbers_in records) (entry_groups x) ∷ [] =
+    sym p ∙ f ∙ ap (flats_in records) e ∙ map-append (λ (z : Entry). map (numbers_in records) (entry_groups z)) rest (x ∷ []) in
+    same_from_push more (flats_in records rest) flat (map (numbers_in records) (entry_groups x)) joined
 
-pub ready_flat : (start now : Records) (x : Entry) (flat : List (List ℕ)) → AreDistinct start → keys_of_records now ≡ keys_of_records start → HaveNumbers start (asked x) → flat ≡ map (numbers_in start) (asked x) → HasReadyFlat now x flat
+pub ready_flat : (start now : Records) (x : Entry) (flat : List (List ℕ)) → AreDistinct start → keys_of_records now ≡ keys_of_records start → HaveNumbers start (entry_groups x) → flat ≡ map (numbers_in start) (entry_groups x) → HasReadyFlat now x flat
 ready_flat start now x flat d e have f = record {
-  groups = (λ i. map (named (e i)) flat) ∙ ap (groups_in start) f ∙ groups_back start d (asked x) have;
-  within = subst (λ l. All (All (λ n. n < l)) flat) (sym (same_length start now e)) (subst (All (All (λ n. n < length start))) (sym f) (groups_below start d (asked x) have));
+  groups = (λ i. map (keys_at (e i)) flat) ∙ ap (groups_in start) f ∙ groups_back start d (entry_groups x) have;
+  within = subst (λ l. All (All (λ n. n < l)) flat) (sym (same_length start now e)) (subst (All (All (λ n. n < length start))) (sym f) (groups_below start d (entry_groups x) have));
 }

@@ -1,18 +1,18 @@
 -- What an edit reaches is collected by marks that are taken away again, and marked later.
 use Rattle.std.proofs.Common.{◌≡◌, ◌⊎◌, inl, inr, ℕ, ◌+◌, ◌<◌, Bool, true, false, List, [], ◌∷◌, ◌++◌, Option, Some, None, refl, sym, ◌∙◌, ap, subst, length, take, slice_index_or}
-use Rattle.evaluation.specs.Graph.{Record, Reaches, leaf, through, Marks}
-use Rattle.evaluation.specs.Value.{In, first}
+use Rattle.engine_semantics.specs.Graph.{Record, Reaches, leaf, through, MarksDirty}
+use Rattle.engine_semantics.specs.Value.{In, first}
 use Rattle.std.specs.Map.{keys_of}
-use Rattle.numbered.specs.Tables.{AreDistinct, Writes}
-use Rattle.numbered.proofs.Numbers.{same_entries}
+use Rattle.node_table.specs.Tables.{AreDistinct, Writes}
+use Rattle.node_table.proofs.Numbers.{same_entries}
 use Rattle.keys.specs.declared.key.Key.{Key}
 use Rattle.keys.specs.declared.value.Value.{Value}
 use Rattle.node.specs.declared.records.NodeRecord.{NodeRecord}
 use Rattle.std.specs.Prelude.{All}
-use Rattle.node.specs.Records.{Records, Users, AsksNumbers, kept_at, listed, numbers_of, record_of}
+use Rattle.node.specs.Records.{Records, Users, AsksNumbers, kept_at, rdep_ids, numbers_of, record_of}
 use Rattle.node.proofs.Showing.{seen_same}
 use Rattle.node.specs.Marks.{IsDirty, IsReached, at_leaf, by_user, Marked, HasPassed, SetsMarks}
-use Rattle.node.specs.Graphs.{GraphView, recorded, record_at, seen, touched_leaves, IsTouched, IsLinked, AreReached}
+use Rattle.node.specs.Graphs.{GraphView, recorded, record_at, records_of, touched_leaves, IsTouched, IsLinked, AreReached}
 use Rattle.node.proofs.Lists.{in_split, in_left, in_right, in_one, not_in, some_is, none_some, same_or_value}
 use Rattle.node.proofs.Linking.{is_kept, is_seen, seen_all, reaches, edit_marks, still_linked, touched_marks}
 use Rattle.node.proofs.Numbering.{one_more, same_length}
@@ -105,11 +105,11 @@ pub unmarked_same : (users : Users) (leaves : List Key) (old middle new : Record
 unmarked_same users leaves old middle new keys given d e k l m t = same_entries old new d (l ∙ k) (unmarked users leaves old middle new keys given e m t)
 
 -- what was marked from the leaves is what an edit that touches them reaches
-module _ (users : Users) (leaves : List Key) (old new : Records) (same : keys_of new ≡ keys_of old) (marked : List Key) (linked : IsLinked (seen old) users) (m : Marked users leaves old new marked) (passed : HasPassed users new marked) (begun : (k : Key) → In k leaves → IsDirty new k) where
+module _ (users : Users) (leaves : List Key) (old new : Records) (same : keys_of new ≡ keys_of old) (marked : List Key) (linked : IsLinked (records_of old) users) (m : Marked users leaves old new marked) (passed : HasPassed users new marked) (begun : (k : Key) → In k leaves → IsDirty new k) where
   abbrev IsLeaf : Key → Type 0
   IsLeaf k = In k leaves
 
-  pub are_reached : AreReached (seen old) IsLeaf marked
+  pub are_reached : AreReached (records_of old) IsLeaf marked
   are_reached = record {
     each = λ k i. let p = m.each k i in (record_of (keys_of old) p.0, is_seen old k p.0 p.1, p.2, reaches users leaves old new same marked linked m passed begun p.4);
     all = λ k r h c. let l = (edit_marks users leaves old new same marked linked m passed begun) in let x = l.kept k r h in
@@ -119,17 +119,17 @@ module _ (users : Users) (leaves : List Key) (old new : Records) (same : keys_of
         ];
   }
     where
-      same_mark : (k : Key) (r : Record Key Value) (b : Bool) → seen old k ≡ Some r → seen new k ≡ Some (record r { dirty = b }) → kept_at new k ≡ kept_at old k → r.dirty ≡ b
+      same_mark : (k : Key) (r : Record Key Value) (b : Bool) → records_of old k ≡ Some r → records_of new k ≡ Some (record r { dirty = b }) → kept_at new k ≡ kept_at old k → r.dirty ≡ b
       same_mark k r b h g p = let q : r ≡ record r { dirty = b } = some_is (sym h ∙ sym (seen_same old new k same p) ∙ g) in ap (λ (y : Record Key Value). y.dirty) q
 
--- what an edit reaches is marked
-module _ (users : Users) (leaves : List Key) (old new : Records) (keys : List Key) (linked : IsLinked (seen old) users) (reached : AreReached (seen old) (λ k. In k leaves) keys) (s : SetsMarks true old new keys) where
-  reached_users : {k : Key} → Reaches (seen old) (λ x. In x leaves) k → IsReached users leaves k
+-- what an edit reaches is marked dirty
+module _ (users : Users) (leaves : List Key) (old new : Records) (keys : List Key) (linked : IsLinked (records_of old) users) (reached : AreReached (records_of old) (λ k. In k leaves) keys) (s : SetsMarks true old new keys) where
+  reached_users : {k : Key} → Reaches (records_of old) (λ x. In x leaves) k → IsReached users leaves k
   reached_users (leaf i) = at_leaf i
   reached_users (through {k = k} {r = r} {j = j} h i c) = by_user (reached_users c) (linked.complete j k r h i)
 
   -- what reaches a leaf is dirty now
-  now_dirty : (k : Key) → Reaches (seen old) (λ x. In x leaves) k → IsDirty new k
+  now_dirty : (k : Key) → Reaches (records_of old) (λ x. In x leaves) k → IsDirty new k
   now_dirty k c e h = go (kept_at old k) refl
     where
       listed : (x : NodeRecord) → kept_at old k ≡ Some x → In k keys → e.dirty ≡ true
@@ -159,37 +159,37 @@ module _ (users : Users) (leaves : List Key) (old new : Records) (keys : List Ke
   set_begun k i = now_dirty k (leaf i)
 
 -- the same of the graph that a contract sees
-pub seen_reached : (records : Records) (version : ℕ) (before : GraphView) → recorded version records ≡ before → (touched : Key → Type 0) (keys : List Key) → AreReached (record_at before) touched keys → AreReached (seen records) touched keys
+pub seen_reached : (records : Records) (version : ℕ) (before : GraphView) → recorded version records ≡ before → (touched : Key → Type 0) (keys : List Key) → AreReached (record_at before) touched keys → AreReached (records_of records) touched keys
 seen_reached records version before b touched keys r =
     subst (λ (f : Key → Option (Record Key Value)). AreReached f touched keys) (seen_all records version)
     (subst (λ (g : GraphView). AreReached (record_at g) touched keys) (sym b) r)
 
-pub shown_reached : (records : Records) (version : ℕ) (before : GraphView) → recorded version records ≡ before → (leaves path : List Key) (keys : List Key) → leaves ≡ path → AreReached (seen records) (λ k. In k leaves) keys → AreReached (record_at before) (λ k. In k path) keys
+pub shown_reached : (records : Records) (version : ℕ) (before : GraphView) → recorded version records ≡ before → (leaves path : List Key) (keys : List Key) → leaves ≡ path → AreReached (records_of records) (λ k. In k leaves) keys → AreReached (record_at before) (λ k. In k path) keys
 shown_reached records version before b leaves path keys e r =
     subst (λ (ls : List Key). AreReached (record_at before) (λ k. In k ls) keys) e
     (subst (λ (g : GraphView). AreReached (record_at g) (λ k. In k leaves) keys) b
     (subst (λ (f : Key → Option (Record Key Value)). AreReached f (λ k. In k leaves) keys) (sym (seen_all records version)) r))
 
--- a graph whose records were marked so
-module _ (users : Users) (old new : Records) (same : keys_of new ≡ keys_of old) (version : ℕ) (before : GraphView) (b : recorded version old ≡ before) (linked : IsLinked (seen old) users) (keys : List Key) (s : SetsMarks true old new keys) where
-  pub marking_linked : (paths : List (List ℕ)) → AreReached (record_at before) (IsTouched paths) keys → IsLinked (seen new) users
+-- a graph whose records were marked dirty in this way
+module _ (users : Users) (old new : Records) (same : keys_of new ≡ keys_of old) (version : ℕ) (before : GraphView) (b : recorded version old ≡ before) (linked : IsLinked (records_of old) users) (keys : List Key) (s : SetsMarks true old new keys) where
+  pub marking_linked : (paths : List (List ℕ)) → AreReached (record_at before) (IsTouched paths) keys → IsLinked (records_of new) users
   marking_linked paths r = let a = seen_reached old version before b (IsTouched paths) keys r in
       still_linked users (touched_leaves paths) old new same keys linked (set_marked users (touched_leaves paths) old new keys linked a s) (set_passed users (touched_leaves paths) old new keys linked a s) (set_begun users (touched_leaves paths) old new keys linked a s)
 
-  pub marking_marks : (paths : List (List ℕ)) → AreReached (record_at before) (IsTouched paths) keys → (later : ℕ) → Marks (record_at before) (record_at (recorded later new)) (IsTouched paths)
+  pub marking_marks : (paths : List (List ℕ)) → AreReached (record_at before) (IsTouched paths) keys → (later : ℕ) → MarksDirty (record_at before) (record_at (recorded later new)) (IsTouched paths)
   marking_marks paths r later = let a = seen_reached old version before b (IsTouched paths) keys r in
       touched_marks users (touched_leaves paths) old new same keys linked (set_marked users (touched_leaves paths) old new keys linked a s) (set_passed users (touched_leaves paths) old new keys linked a s) (set_begun users (touched_leaves paths) old new keys linked a s) paths refl before version later b
 
--- marks leave the users
+-- marks leave the reverse dependencies
 pub marks_lists : (dirty : Bool) (old new : Records) (keys : List Key) → SetsMarks dirty old new keys → (j : Key) → numbers_of new j ≡ numbers_of old j
 marks_lists dirty old new keys s j = elim (s.rest j) [
   | inl i ↦ go i (kept_at old j) refl
-  | inr q ↦ ap listed q
+  | inr q ↦ ap rdep_ids q
 ]
   where
     go : In j keys → (o : Option NodeRecord) → kept_at old j ≡ o → numbers_of new j ≡ numbers_of old j
-    go i None h = ap listed (s.none j h) ∙ sym (ap listed h)
-    go i (Some e) h = ap listed (s.each j i e h) ∙ sym (ap listed h)
+    go i None h = ap rdep_ids (s.none j h) ∙ sym (ap rdep_ids h)
+    go i (Some e) h = ap rdep_ids (s.each j i e h) ∙ sym (ap rdep_ids h)
 
 -- and the groups
 pub marks_asks : (dirty : Bool) (old new : Records) (keys : List Key) → keys_of new ≡ keys_of old → SetsMarks dirty old new keys → AsksNumbers old → AsksNumbers new

@@ -6,11 +6,11 @@ use Rattle.std.proofs.lemmas.List.Elements.{All-head, All-tail}
 use Rattle.std.proofs.lemmas.List.Sums.{sum_by-cons}
 use Rattle.std.proofs.lemmas.Map.Entries.{length-keys_of, length-values_of}
 use Rattle.std.proofs.lemmas.Option.{get_or_from_slice_get}
-use Rattle.evaluation.specs.Graph.{Record}
+use Rattle.engine_semantics.specs.Graph.{Record}
 use Rattle.keys.specs.declared.key.Key.{Key}
 use Rattle.keys.specs.declared.value.Value.{Value}
-use Rattle.numbered.specs.Tables.{AreDistinct}
-use Rattle.numbered.proofs.Numbers.{value_by_number}
+use Rattle.node_table.specs.Tables.{AreDistinct}
+use Rattle.node_table.proofs.Numbers.{value_by_number}
 use Rattle.node.specs.declared.records.NodeRecord.{NodeRecord}
 use Rattle.node.specs.Counts.{edges_of, kept_edges, members_of, size}
 use Rattle.node.specs.Graphs.{recorded}

@@ -1,4 +1,4 @@
--- Sets of users.
+-- Sets of reverse dependencies.
 use Rattle.std.proofs.Common.{◌≡◌, ◌≢◌, ◌⊎◌, inl, inr, ℕ, ◌+◌, ◌<◌, ◌≤◌, length, take, map, add-one, slice_index_or, Bool, true, false, ◌==◌, cond, not, ◌||◌, List, [], ◌∷◌, ◌++◌, Some, None, refl, sym, ◌∙◌, ap, subst}
 use Rattle.std.specs.List.{list_any, filter}
 use Rattle.std.specs.BTreeMap.{is_at}
@@ -6,7 +6,7 @@ use Rattle.std.specs.BTreeSet.{BTreeSet, contains, Updates}
 use Rattle.std.specs.Ordering.{is_eq}
 use Rattle.std.proofs.lemmas.Cmp.{tied_itself}
 use Rattle.std.proofs.lemmas.Map.Views.{tells_apart}
-use Rattle.evaluation.specs.Value.{In, first, after, IsMember}
+use Rattle.engine_semantics.specs.Value.{In, first, after, IsMember}
 use Rattle.keys.specs.Keys.{key_cmp, key_eq}
 use Rattle.keys.specs.declared.key.Key.{Key}
 use Rattle.keys.proofs.KeyLaws.{keys_total, exact_keys, exact_key_eq}
@@ -17,9 +17,9 @@ use Rattle.std.proofs.lemmas.Bool.{eq-eqb, eqb-true}
 use Rattle.std.proofs.Math.Seq.{take-suc, take_all}
 use Rattle.std.specs.Prelude.{Option, IfSome, IfNone}
 use Rattle.node.specs.declared.records.NodeRecord.{NodeRecord}
-use Rattle.node.specs.Records.{Records, UserLists, kept_at, numbers_of, listed, items_of}
+use Rattle.node.specs.Records.{Records, UserLists, kept_at, numbers_of, rdep_ids, items_of}
 use Rattle.node.specs.Edges.{IsAdded, IsRemoved, SameUsers, HasLinked, HasUnlinked, HasLinkedSome, HasLinkedAll, HasCut, AreMembers, among}
-use Rattle.numbered.specs.Tables.{Writes}
+use Rattle.node_table.specs.Tables.{Writes}
 use Rattle.node.proofs.Lists.{true_false, decide_key, not_in, in_split, in_one, in_left, in_right}
 use Rattle.node.proofs.Numbering.{in_at_is}
 
@@ -81,7 +81,7 @@ module _ (old new : BTreeSet Key) (key : Key) where
       keeps k i true t = inr (tells_apart exact_keys key k t)
       keeps k i false t = inl (in_has new k (u.2 k t ∙ has_in old k i))
 
--- a user is added to a list, or taken out
+-- a reverse dependency is added to a list, or taken out
 pub list_added : {X : Type 0} (list : List X) (key : X) → IsAdded list (list ++ key ∷ []) key
 list_added list key = record {
   from = λ k i. elim (in_split i list (key ∷ []) refl) [ inl a ↦ inl a | inr b ↦ inr (sym (in_one b)) ];
@@ -247,24 +247,24 @@ member_among (x ∷ groups) key (after m) i = or_right (list_any (λ k. key_eq k
 pub not_among : (groups : List (List Key)) (key : Key) → among groups key ≡ false → IsMember key groups → ⊥
 not_among groups key h m = true_false (member_among groups key m.1 m.2) h
 
--- the same of the users that stand in a record
+-- the same of the reverse dependencies that are in a record
 module _ (old new : Records) (member : Key) (user : ℕ) (e w : NodeRecord) (u : Writes old new member w) (had : Some e ≡ kept_at old member) where
   list_now : numbers_of new member ≡ w.users.items
-  list_now = ap listed u.there
+  list_now = ap rdep_ids u.there
 
   lists_elsewhere : (j : Key) → member ≢ j → numbers_of new j ≡ numbers_of old j
-  lists_elsewhere j n = ap listed (u.others j n)
+  lists_elsewhere j n = ap rdep_ids (u.others j n)
 
   pub linked_through : w.users.items ≡ e.users.items ++ user ∷ [] → HasLinked (numbers_of old) (numbers_of new) member user
   linked_through a = linked (numbers_of old) (numbers_of new) member user w.users.items list_now lists_elsewhere
-      (subst (λ l. IsAdded (numbers_of old member) l user) (sym (a ∙ ap (λ o. listed o ++ user ∷ []) had)) (list_added (numbers_of old member) user))
+      (subst (λ l. IsAdded (numbers_of old member) l user) (sym (a ∙ ap (λ o. rdep_ids o ++ user ∷ []) had)) (list_added (numbers_of old member) user))
 
   pub unlinked_through : w.users.items ≡ filter (λ k. not (k == user)) e.users.items → HasUnlinked (numbers_of old) (numbers_of new) member user
   unlinked_through a = unlinked (numbers_of old) (numbers_of new) member user w.users.items list_now lists_elsewhere
-      (subst (λ l. IsRemoved (numbers_of old member) l user) (sym (a ∙ ap (λ o. filter (λ k. not (k == user)) (listed o)) had)) (list_removed (numbers_of old member) user))
+      (subst (λ l. IsRemoved (numbers_of old member) l user) (sym (a ∙ ap (λ o. filter (λ k. not (k == user)) (rdep_ids o)) had)) (list_removed (numbers_of old member) user))
 
   pub same_through : w.users.items ≡ e.users.items → SameUsers (numbers_of old) (numbers_of new)
-  same_through a = same_set (numbers_of old) (numbers_of new) member user w.users.items list_now lists_elsewhere (a ∙ ap listed had)
+  same_through a = same_set (numbers_of old) (numbers_of new) member user w.users.items list_now lists_elsewhere (a ∙ ap rdep_ids had)
 
 -- one more element of a list
 pub in_taken : {X : Type 0} (xs : List X) (n : ℕ) (x j : X) → x ≡ slice_index_or xs n x → n < length xs → In j (take (n + 1) xs) → In j (take n xs) ⊎ (x ≡ j)
@@ -295,7 +295,7 @@ group_member groups n g j e h i = (g.items, in_mapped (λ (x : Vec Key Global). 
 pub one_linked_more : {X : Type 0} (old new : Key → List X) (key : X) (group : List Key) (n : ℕ) (m : Key) → m ≡ slice_index_or group n m → n < length group → HasLinked old new m key → HasLinkedAll old key (λ j. In j (take n group)) → HasLinkedAll new key (λ j. In j (take (n + 1) group))
 one_linked_more old new key group n m e h l a j i = elim (in_taken group n m j e h i) [ inl x ↦ l.keeps j key (a j x) | inr x ↦ subst (λ y. In key (new y)) x l.has ]
 
--- of one member it was a user
+-- of one member it was a reverse dependency
 pub one_linked_same : {X : Type 0} (users : Key → List X) (key : X) (group : List Key) (n : ℕ) (m : Key) → m ≡ slice_index_or group n m → n < length group → In key (users m) → HasLinkedAll users key (λ j. In j (take n group)) → HasLinkedAll users key (λ j. In j (take (n + 1) group))
 one_linked_same users key group n m e h l a j i = elim (in_taken group n m j e h i) [ inl x ↦ a j x | inr x ↦ subst (λ y. In key (users y)) x l ]
 

@@ -1,11 +1,11 @@
--- What the graph's calls do keeps a lawful graph lawful.
+-- What the graph's calls do keeps a consistent graph consistent.
 use Rattle.std.proofs.Common.{◌≡◌, ◌≢◌, ◌⊎◌, inl, inr, ℕ, ◌+◌, Bool, true, false, cond, List, Option, Some, None, refl, sym, ◌∙◌, ap, subst}
-use Rattle.evaluation.specs.Reply.{Reply}
-use Rattle.evaluation.specs.Value.{In, IsMember}
+use Rattle.engine_semantics.specs.Reply.{Reply}
+use Rattle.engine_semantics.specs.Value.{In, IsMember}
 use Rattle.std.specs.Arc.{arc_value}
-use Rattle.evaluation.specs.Graph.{Record, Lawful, Marks, IsSettled}
-use Rattle.evaluation.proofs.Touch.{touch_lawful}
-use Rattle.evaluation.proofs.Settle.{settle_lawful}
+use Rattle.engine_semantics.specs.Graph.{Record, Lawful, MarksDirty, IsSettled}
+use Rattle.engine_semantics.proofs.Touch.{touch_lawful}
+use Rattle.engine_semantics.proofs.Settle.{settle_lawful}
 use Rattle.keys.specs.Cycles.{cycle}
 use Rattle.keys.specs.Values.{value_eq}
 use Rattle.keys.specs.ValueLaws.{exact_values}
@@ -13,18 +13,18 @@ use Rattle.keys.specs.declared.key.Key.{Key}
 use Rattle.keys.specs.declared.value.Value.{Value}
 use Rattle.keys.proofs.CycleLaws.{turned}
 use Rattle.node.specs.Graphs.{GraphView, record_at, IsTouched, HasCleanMembers, Sets}
-use Rattle.node.specs.Writes.{change_of, stored, HasReadyMembers}
+use Rattle.node.specs.Writes.{change_of, settled_record, HasReadyMembers}
 use Rattle.node.specs.declared.entry.Entry.{Entry}
-use Rattle.node.specs.Batches.{asked, keys_of, HasReadyEntries, SetsAll}
-use Rattle.node.specs.Laws.{IsLawfulFor, TouchKeepsLawful, SettlingKeepsLawful, BatchKeepsLawful}
+use Rattle.node.specs.Batches.{entry_groups, keys_of, HasReadyEntries, SetsAll}
+use Rattle.node.specs.Laws.{IsConsistentFor, TouchKeepsLawful, SettlingKeepsLawful, BatchKeepsLawful}
 use Rattle.node.proofs.Lists.{some_is, none_some, true_false, decide_key}
 use Rattle.node.proofs.Batching.{decide_in, entry_of}
 
-pub touch_keeps : (old new : GraphView) (paths : List (List ℕ)) → new.version ≡ old.version + 1 → Marks (record_at old) (record_at new) (IsTouched paths) → TouchKeepsLawful old new paths
+pub touch_keeps : (old new : GraphView) (paths : List (List ℕ)) → new.version ≡ old.version + 1 → MarksDirty (record_at old) (record_at new) (IsTouched paths) → TouchKeepsLawful old new paths
 touch_keeps old new paths v m next reads edits law e edit stays =
     subst (λ (n : ℕ). Lawful next cycle reads (record_at new) (λ u k. IsTouched (edits u) k) n) (sym v)
     (touch_lawful next cycle reads (record_at old) (record_at new) (λ u k. IsTouched (edits u) k) old.version law
-    (subst (λ (p : List (List ℕ)). Marks (record_at old) (record_at new) (IsTouched p)) (sym e) m)
+    (subst (λ (p : List (List ℕ)). MarksDirty (record_at old) (record_at new) (IsTouched p)) (sym e) m)
     (λ k n. edit k (subst (λ (p : List (List ℕ)). IsTouched p k → ⊥) e n)) stays)
 
 -- how the changed version comes about
@@ -34,7 +34,7 @@ IsChange o value version at = ((r : Record Key Value) × (o ≡ Some r) × (r.va
 module _ (old new : GraphView) (key : Key) (value : Value) (groups : List (List Key)) (at : ℕ) (same : new.version ≡ old.version)
     (sets : Sets (record_at old) (record_at new) key (record { value = value; groups = groups; settled_at = old.version; changed_at = at; dirty = false }))
     (change : IsChange (record_at old key) value old.version at) where
-  pub settling_keeps : ((next : Key → List Value → Reply Key Value) (reads : ℕ → Key → Option Value) (edits : ℕ → List (List ℕ)) → IsLawfulFor next reads edits old → HasReadyMembers (record_at old) key groups) → SettlingKeepsLawful old new key value groups
+  pub settling_keeps : ((next : Key → List Value → Reply Key Value) (reads : ℕ → Key → Option Value) (edits : ℕ → List (List ℕ)) → IsConsistentFor next reads edits old → HasReadyMembers (record_at old) key groups) → SettlingKeepsLawful old new key value groups
   settling_keeps ready next reads edits law holds =
       subst (λ (n : ℕ). Lawful next cycle reads (record_at new) (λ u k. IsTouched (edits u) k) n) (sym same)
       (settle_lawful next cycle turned reads (record_at old) (λ u k. IsTouched (edits u) k) old.version law (record_at new) changed)
@@ -66,7 +66,7 @@ is_change (Some r) value version = go (value_eq r.value value) refl
     go true t = inl (r, refl, (exact_values r.value value).0 t, ap (λ b. cond b r.changed_at version) t)
     go false t = inr (ap (λ b. cond b r.changed_at version) t, λ s e q. true_false ((exact_values r.value value).1 (ap (λ (x : Record Key Value). x.value) (some_is e) ∙ q)) t)
 
-pub record_keeps : (old new : GraphView) (key : Key) (value : Value) (groups : List (List Key)) → new.version ≡ old.version → Sets (record_at old) (record_at new) key (stored (record_at old key) value groups old.version) → HasReadyMembers (record_at old) key groups → SettlingKeepsLawful old new key value groups
+pub record_keeps : (old new : GraphView) (key : Key) (value : Value) (groups : List (List Key)) → new.version ≡ old.version → Sets (record_at old) (record_at new) key (settled_record (record_at old key) value groups old.version) → HasReadyMembers (record_at old) key groups → SettlingKeepsLawful old new key value groups
 record_keeps old new key value groups v s ready = settling_keeps old new key value groups (change_of (record_at old key) value old.version) v s (is_change (record_at old key) value old.version) (λ next reads edits law. ready)
 
 -- a record that is confirmed
@@ -80,18 +80,18 @@ batch_keeps old new entries same sets ready next reads edits law holds =
     subst (λ (n : ℕ). Lawful next cycle reads (record_at new) (λ u k. IsTouched (edits u) k) n) (sym same)
     (settle_lawful next cycle turned reads (record_at old) (λ u k. IsTouched (edits u) k) old.version law (record_at new) changed)
   where
-    member : (e : Entry) → In e entries → (i : Key) → IsMember i (asked e) → (s : Record Key Value) × (record_at new i ≡ Some s) × (s.dirty ≡ false)
+    member : (e : Entry) → In e entries → (i : Key) → IsMember i (entry_groups e) → (s : Record Key Value) × (record_at new i ≡ Some s) × (s.dirty ≡ false)
     member e m i a = elim (decide_in (keys_of entries) i) [
       | inl b ↦
           let p = entry_of entries b in
-          (stored (record_at old p.0.key) (arc_value p.0.value) (asked p.0) old.version, ap (record_at new) (sym p.2) ∙ sets.there p.0 p.1, refl)
+          (settled_record (record_at old p.0.key) (arc_value p.0.value) (entry_groups p.0) old.version, ap (record_at new) (sym p.2) ∙ sets.there p.0 p.1, refl)
       | inr f ↦ elim (ready e m i a) [ inl b ↦ absurd (f b) | inr s ↦ (s.0, sets.others i f ∙ s.1, s.2) ]
     ]
 
     settled : (e : Entry) → In e entries → IsSettled next cycle (reads old.version) old.version (record_at old) (record_at new) e.key
     settled e m = record {
       value = arc_value e.value;
-      groups = asked e;
+      groups = entry_groups e;
       changed_at = change_of (record_at old e.key) (arc_value e.value) old.version;
       stored = sets.there e m;
       holds = holds e m;

@@ -1,4 +1,4 @@
--- Groups that are lent, by the numbers of their members.
+-- Groups that are borrowed, by the numbers of their members.
 use Rattle.std.proofs.Common.{◌≡◌, ◌∙◌, ℕ, zero, suc, ◌<◌, List, [], ◌∷◌, ◌++◌, Some, refl, ap, length}
 use Rattle.std.specs.Prelude.{slice_get, All}
 use Rattle.std.specs.Option.{option_map, option_to_list}
@@ -6,8 +6,8 @@ use Rattle.std.proofs.lemmas.List.{length-map}
 use Rattle.std.proofs.lemmas.List.Elements.{All-head, All-tail}
 use Rattle.std.proofs.lemmas.Option.{slice_get-map}
 use Rattle.keys.specs.declared.key.Key.{Key}
-use Rattle.numbered.specs.Tables.{key_at}
-use Rattle.numbered.specs.Flats.{members_in}
+use Rattle.node_table.specs.Tables.{key_at}
+use Rattle.node_table.specs.Flats.{members_in}
 use Rattle.node.specs.Records.{Records}
 use Rattle.node.proofs.Numbering.{key_there}
 

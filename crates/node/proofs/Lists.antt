@@ -3,13 +3,13 @@ use Rattle.std.specs.Result.{OnErr}
 use Rattle.std.proofs.Common.{length, arith, Result, Ok, Err, ◌≡◌, ◌≢◌, ◌⊎◌, inl, inr, Bool, true, false, List, [], ◌∷◌, ◌++◌, Option, Some, None, refl, ap, subst}
 use Rattle.std.specs.BTreeMap.{BTreeMap, get, Updates, is_at}
 use Rattle.std.proofs.lemmas.Map.Views.{tells_apart}
-use Rattle.evaluation.specs.Value.{In, first, after}
+use Rattle.engine_semantics.specs.Value.{In, first, after}
 use Rattle.keys.specs.declared.key.Key.{Key}
 use Rattle.keys.specs.Keys.{key_cmp}
 use Rattle.keys.proofs.KeyLaws.{keys_total, exact_keys}
 use Rattle.std.proofs.lemmas.Cmp.{tied_itself}
 use Rattle.std.specs.Ordering.{is_eq}
-use Rattle.numbered.specs.Tables.{value_of, Writes}
+use Rattle.node_table.specs.Tables.{value_of, Writes}
 
 module _ {X : Type 0} where
   -- an element of two lists joined

@@ -7,12 +7,12 @@ use Rattle.std.proofs.lemmas.Option.{slice_get_within}
 use Rattle.std.specs.Map.{keys_of}
 use Rattle.std.proofs.lemmas.List.Elements.{All-append, All-nil, All-cons, All-head, All-tail}
 use Rattle.std.proofs.lemmas.Map.Entries.{length-keys_of}
-use Rattle.evaluation.specs.Value.{In, first, after, IsMember}
-use Rattle.numbered.specs.Tables.{key_at, value_at, value_of, number_of, AreDistinct}
-use Rattle.numbered.specs.Flats.{members_in, HasNumber, HaveNumbers, numbers_in}
-use Rattle.numbered.proofs.Numbers.{value_by_number, none_without_number, number_iff}
+use Rattle.engine_semantics.specs.Value.{In, first, after, IsMember}
+use Rattle.node_table.specs.Tables.{key_at, value_at, value_of, number_of, AreDistinct}
+use Rattle.node_table.specs.Flats.{members_in, HasNumber, HaveNumbers, numbers_in}
+use Rattle.node_table.proofs.Numbers.{value_by_number, none_without_number, number_iff}
 use Rattle.keys.specs.declared.key.Key.{Key}
-use Rattle.node.specs.Records.{Records, named}
+use Rattle.node.specs.Records.{Records, keys_at}
 use Rattle.node.specs.Marks.{Lists}
 use Rattle.std.proofs.Math.ListN.{take-append-drop}
 use Rattle.std.proofs.Math.Seq.{take-suc}
@@ -135,50 +135,50 @@ pub concat_below : (bound : ℕ) (groups : List (List ℕ)) → All (All (λ n. 
 concat_below bound [] a = All-nil (λ n. n < bound)
 concat_below bound (g ∷ gs) a = All-append (λ n. n < bound) g (concat gs) (All-head (All (λ n. n < bound)) g gs a) (concat_below bound gs (All-tail (All (λ n. n < bound)) g gs a))
 
-named_append : (keys : List Key) (ms ns : List ℕ) → named keys (ms ++ ns) ≡ named keys ms ++ named keys ns
+named_append : (keys : List Key) (ms ns : List ℕ) → keys_at keys (ms ++ ns) ≡ keys_at keys ms ++ keys_at keys ns
 named_append keys [] ns = refl
-named_append keys (m ∷ ms) ns = ap (λ l. option_to_list (slice_get keys m) ++ l) (named_append keys ms ns) ∙ sym (append_assoc (option_to_list (slice_get keys m)) (named keys ms) (named keys ns))
+named_append keys (m ∷ ms) ns = ap (λ l. option_to_list (slice_get keys m) ++ l) (named_append keys ms ns) ∙ sym (append_assoc (option_to_list (slice_get keys m)) (keys_at keys ms) (keys_at keys ns))
 
 -- the members of groups, one by one or together
-pub named_member : {j : Key} (keys : List Key) (groups : List (List ℕ)) → In j (named keys (concat groups)) → IsMember j (map (named keys) groups)
+pub named_member : {j : Key} (keys : List Key) (groups : List (List ℕ)) → In j (keys_at keys (concat groups)) → IsMember j (map (keys_at keys) groups)
 named_member keys [] i = elim i [ ]
-named_member {j} keys (g ∷ gs) i = elim (in_split (subst (In j) (named_append keys g (concat gs)) i) (named keys g) (named keys (concat gs)) refl) [
-  | inl a ↦ (named keys g, first, a)
+named_member {j} keys (g ∷ gs) i = elim (in_split (subst (In j) (named_append keys g (concat gs)) i) (keys_at keys g) (keys_at keys (concat gs)) refl) [
+  | inl a ↦ (keys_at keys g, first, a)
   | inr b ↦ let m = named_member keys gs b in (m.0, after m.1, m.2)
 ]
 
-member_there : {j : Key} {x : List Key} (keys : List Key) (groups : List (List ℕ)) → In x (map (named keys) groups) → In j x → In j (named keys (concat groups))
+member_there : {j : Key} {x : List Key} (keys : List Key) (groups : List (List ℕ)) → In x (map (keys_at keys) groups) → In j x → In j (keys_at keys (concat groups))
 member_there keys [] m i = elim m [ ]
-member_there {j} keys (g ∷ gs) first i = subst (In j) (sym (named_append keys g (concat gs))) (in_left (named keys (concat gs)) i)
-member_there {j} keys (g ∷ gs) (after m) i = subst (In j) (sym (named_append keys g (concat gs))) (in_right (named keys g) (member_there keys gs m i))
+member_there {j} keys (g ∷ gs) first i = subst (In j) (sym (named_append keys g (concat gs))) (in_left (keys_at keys (concat gs)) i)
+member_there {j} keys (g ∷ gs) (after m) i = subst (In j) (sym (named_append keys g (concat gs))) (in_right (keys_at keys g) (member_there keys gs m i))
 
-pub member_named : {j : Key} (keys : List Key) (groups : List (List ℕ)) → IsMember j (map (named keys) groups) → In j (named keys (concat groups))
+pub member_named : {j : Key} (keys : List Key) (groups : List (List ℕ)) → IsMember j (map (keys_at keys) groups) → In j (keys_at keys (concat groups))
 member_named keys groups m = member_there keys groups m.1 m.2
 
 -- so is the test
-pub among_named : (keys : List Key) (groups : List (List ℕ)) (key : Key) → list_any (λ k. key_eq k key) (named keys (concat groups)) ≡ among (map (named keys) groups) key
+pub among_named : (keys : List Key) (groups : List (List ℕ)) (key : Key) → list_any (λ k. key_eq k key) (keys_at keys (concat groups)) ≡ among (map (keys_at keys) groups) key
 among_named keys [] key = refl
 among_named keys (g ∷ gs) key =
-    ap (list_any (λ k. key_eq k key)) (named_append keys g (concat gs)) ∙ list_any-append (λ k. key_eq k key) (named keys g) (named keys (concat gs)) ∙ ap (λ b. list_any (λ k. key_eq k key) (named keys g) || b) (among_named keys gs key)
+    ap (list_any (λ k. key_eq k key)) (named_append keys g (concat gs)) ∙ list_any-append (λ k. key_eq k key) (keys_at keys g) (keys_at keys (concat gs)) ∙ ap (λ b. list_any (λ k. key_eq k key) (keys_at keys g) || b) (among_named keys gs key)
 
 -- each number below the bound names one key
-length_named : (keys : List Key) (ns : List ℕ) → All (λ n. n < length keys) ns → length (named keys ns) ≡ length ns
+length_named : (keys : List Key) (ns : List ℕ) → All (λ n. n < length keys) ns → length (keys_at keys ns) ≡ length ns
 length_named keys [] a = refl
 length_named keys (n ∷ ns) a =
     one (slice_get keys n) refl (All-head (λ m. m < length keys) n ns a) ∙ ap suc (length_named keys ns (All-tail (λ m. m < length keys) n ns a))
   where
-    one : (o : Option Key) → slice_get keys n ≡ o → n < length keys → length (option_to_list (slice_get keys n) ++ named keys ns) ≡ suc (length (named keys ns))
+    one : (o : Option Key) → slice_get keys n ≡ o → n < length keys → length (option_to_list (slice_get keys n) ++ keys_at keys ns) ≡ suc (length (keys_at keys ns))
     one None q h = absurd (none_some (sym q ∙ (there keys n h).1))
       where
         there : (ks : List Key) (m : ℕ) → m < length ks → (k : Key) × (slice_get ks m ≡ Some k)
         there [] m l = absurd (omega arith)
         there (x ∷ ks) zero l = (x, refl)
         there (x ∷ ks) (suc m) l = there ks m (omega arith)
-    one (Some k) q h = ap (λ o. length (option_to_list o ++ named keys ns)) q
+    one (Some k) q h = ap (λ o. length (option_to_list o ++ keys_at keys ns)) q
 
-pub sizes_named : (keys : List Key) (groups : List (List ℕ)) → All (All (λ n. n < length keys)) groups → sum_by length (map (named keys) groups) ≡ length (concat groups)
+pub sizes_named : (keys : List Key) (groups : List (List ℕ)) → All (All (λ n. n < length keys)) groups → sum_by length (map (keys_at keys) groups) ≡ length (concat groups)
 sizes_named keys [] a = refl
 sizes_named keys (g ∷ gs) a =
     let own = length_named keys g (All-head (All (λ n. n < length keys)) g gs a) in
     let rest = sizes_named keys gs (All-tail (All (λ n. n < length keys)) g gs a) in
-    omega (arith, sum_by-cons length (named keys g) (map (named keys) gs), own, rest, length-append g (concat gs))
+    omega (arith, sum_by-cons length (keys_at keys g) (map (keys_at keys) gs), own, rest, length-append g (concat gs))

@@ -1,11 +1,11 @@
--- Marks are spread a key at a time.
+-- Records are marked dirty one key at a time.
 use Rattle.std.proofs.Common.{◌≡◌, ◌⊎◌, inl, inr, ℕ, ◌+◌, ◌<◌, ◌≤◌, true, false, List, [], ◌∷◌, ◌++◌, Some, refl, sym, ◌∙◌, ap, subst, length, take, arith, append-nil, append_assoc, slice_index_or}
 use Rattle.std.proofs.lemmas.List.{take-append-le, length-append}
 use Rattle.std.proofs.Math.Seq.{take_all}
-use Rattle.evaluation.specs.Value.{In, first}
+use Rattle.engine_semantics.specs.Value.{In, first}
 use Rattle.std.specs.Map.{keys_of}
-use Rattle.numbered.specs.Tables.{Writes, key_at}
-use Rattle.numbered.specs.Flats.{members_in}
+use Rattle.node_table.specs.Tables.{Writes, key_at}
+use Rattle.node_table.specs.Flats.{members_in}
 use Rattle.keys.specs.declared.key.Key.{Key}
 use Rattle.node.specs.declared.records.NodeRecord.{NodeRecord}
 use Rattle.node.specs.Records.{Records, Users, kept_at, numbers_of, users_at}
@@ -16,7 +16,7 @@ use Rattle.node.proofs.Lists.{in_split, in_left, in_right, in_one, not_in, some_
 use Rattle.node.proofs.Showing.{writes_lists}
 
 module _ (old new : Records) (before now : List Key) (key : Key) where
-  -- the key has its mark
+  -- the record of the key is dirty
   module _ (e : NodeRecord) (had : kept_at old key ≡ Some e) (clean : e.dirty ≡ false) (u : Writes old new key (record e { dirty = true })) where
     now_dirty : IsDirty new key
     now_dirty x h = let q : record e { dirty = true } ≡ x = some_is (sym u.there ∙ h) in ap (λ (y : NodeRecord). y.dirty) (sym q)
@@ -84,7 +84,7 @@ module _ (old new : Records) (before now : List Key) (key : Key) where
   }
 
 module _ (users : Users) (start old new : Records) (begun before now : List Key) (j : Key) where
-  -- from a listed key to its users
+  -- from a listed key to its reverse dependencies
   pub spread_more : HasSpread users start old begun before → HasReachedSome old new before now (users_at users j) → In j before → HasSpread users start new begun now
   spread_more s h i = record {
     marks = λ leaves original m. let p = s.marks leaves original m in h.marks users leaves original p (λ k u. by_user (p.each j i).4 u);
@@ -94,7 +94,7 @@ module _ (users : Users) (start old new : Records) (begun before now : List Key)
   }
 
 module _ (users : Users) (old new : Records) (before now : List ℕ) (at n : ℕ) where
-  -- the users of one more listed key are dirty
+  -- the reverse dependencies of one more listed key are dirty
   pub passed_more : (j : Key) → key_at old n ≡ Some j → n ≡ slice_index_or before at n → at < length before → HasPassed users old (members_in old (take at before))
       → HasReachedSome old new (members_in old before) (members_in new now) (users_at users j) → Lists old before now → HasReachedAll new (users_at users j) → HasPassed users new (members_in new (take (at + 1) now))
   passed_more j e q l p s g a = λ i m k u. elim (in_split m (members_in old (take at before)) (j ∷ []) these) [
@@ -129,7 +129,7 @@ leaf_taken old new before now leaves n d leaf e l h a k i = elim (in_split i (ta
   | inr x ↦ subst (IsDirty new) (sym (in_one x)) (reached_dirty old new before now leaf h)
 ]
 
--- one more user
+-- one more reverse dependency
 pub user_taken : (old new : Records) (before now : List Key) (k : Key) (keys next : List Key) → next ≡ keys ++ k ∷ [] → HasReached old new before now k → HasReachedAll old keys → HasReachedAll new next
 user_taken old new before now k keys next e h a x i = elim (in_split i keys (k ∷ []) e) [
   | inl y ↦ reached_still old new before now k h x (a x y)

@@ -1,7 +1,7 @@
 -- The test of the members that are ready tells what it should.
 use Rattle.std.proofs.Common.{◌≡◌, ◌⊎◌, inl, inr, Bool, true, false, not, ◌&&◌, ◌||◌, List, Option, Some, None, refl}
-use Rattle.evaluation.specs.Graph.{Record}
-use Rattle.evaluation.specs.Value.{In, first, after}
+use Rattle.engine_semantics.specs.Graph.{Record}
+use Rattle.engine_semantics.specs.Value.{In, first, after}
 use Rattle.keys.specs.Keys.{key_eq}
 use Rattle.keys.specs.declared.key.Key.{Key}
 use Rattle.keys.specs.declared.value.Value.{Value}

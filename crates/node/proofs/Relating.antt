@@ -1,24 +1,24 @@
--- Users by their numbers and by their keys.
+-- Reverse dependencies by their numbers and by their keys.
 use Rattle.std.proofs.Common.{◌≡◌, inl, inr, ℕ, ◌<◌, ◌∙◌, List, [], ◌∷◌, ◌++◌, Option, Some, None, refl, sym, ap, subst, length, arith}
 use Rattle.std.specs.Option.{option_map, option_to_list, IsSome, is_some}
 use Rattle.std.specs.Map.{keys_of}
 use Rattle.std.proofs.lemmas.List.{map-append, length-append}
-use Rattle.evaluation.specs.Value.{In, first, after}
-use Rattle.numbered.specs.Tables.{key_at, number_of, AreDistinct, Grows}
-use Rattle.numbered.specs.Flats.{members_in}
-use Rattle.numbered.proofs.Numbers.{number_iff, key_stays, none_without_number}
-use Rattle.numbered.proofs.Flats.{key_same as key_grown}
+use Rattle.engine_semantics.specs.Value.{In, first, after}
+use Rattle.node_table.specs.Tables.{key_at, number_of, AreDistinct, Grows}
+use Rattle.node_table.specs.Flats.{members_in}
+use Rattle.node_table.proofs.Numbers.{number_iff, key_stays, none_without_number}
+use Rattle.node_table.proofs.Flats.{key_same as key_grown}
 use Rattle.std.specs.List.{IsDistinct}
 use Rattle.keys.specs.Keys.{key_eq}
 use Rattle.keys.specs.declared.key.Key.{Key}
 use Rattle.keys.specs.declared.value.Value.{Value}
-use Rattle.evaluation.specs.Graph.{Record}
+use Rattle.engine_semantics.specs.Graph.{Record}
 use Rattle.node.specs.declared.records.NodeRecord.{NodeRecord}
-use Rattle.node.specs.Records.{Records, UserLists, AreNumbers, AsksNumbers, KeepsRecords, kept_at, listed, numbers_of, record_of, users_in, users_of}
+use Rattle.node.specs.Records.{Records, UserLists, AreNumbers, AsksNumbers, KeepsRecords, kept_at, rdep_ids, numbers_of, record_of, users_in, users_of}
 use Rattle.node.specs.Edges.{HasLinkedSome, HasLinkedAll, HasCut}
 use Rattle.node.specs.Batches.{HasFewer}
 use Rattle.node.specs.Writes.{SameSets}
-use Rattle.node.specs.Graphs.{seen, IsLinked, IsLinkedBy}
+use Rattle.node.specs.Graphs.{records_of, IsLinked, IsLinkedBy}
 use Rattle.node.proofs.Lists.{in_split, in_one, not_in, none_some, some_is, true_false}
 use Rattle.node.proofs.Numbering.{in_members, members_same, same_length, key_there, key_within}
 use Rattle.node.proofs.Rewriting.{linked_sets}
@@ -100,13 +100,13 @@ module _ (old placed more : Records) (e : placed ≡ old ++ more) where
   pub numbers_grown : (lists : UserLists) → AreNumbers old lists → AreNumbers placed lists
   numbers_grown lists a j n i = let l = ap length e ∙ length-append old more in let s = a j n i in omega arith
 
-  module _ (lists : UserLists) (o : AreDistinct old) (d : AreDistinct placed) (a : AreNumbers placed lists) (known : (j k : Key) → In k (users_in placed lists j) → IsSome (seen old k)) where
+  module _ (lists : UserLists) (o : AreDistinct old) (d : AreDistinct placed) (a : AreNumbers placed lists) (known : (j k : Key) → In k (users_in placed lists j) → IsSome (records_of old k)) where
     pub numbers_shrunk : AreNumbers old lists
     numbers_shrunk j n i =
         let k = key_there placed n (a j n i) in
         go k.0 k.1 (known j k.0 (in_members placed (lists j) n k.0 i k.1)) (number_of old k.0) refl
       where
-        go : (k : Key) → key_at placed n ≡ Some k → IsSome (seen old k) → (m : Option ℕ) → number_of old k ≡ m → n < length old
+        go : (k : Key) → key_at placed n ≡ Some k → IsSome (records_of old k) → (m : Option ℕ) → number_of old k ≡ m → n < length old
         go k h s None q = absurd (true_false s (ap (λ o. is_some (option_map (record_of (keys_of old)) o)) (none_without_number old k q)))
         go k h s (Some m) q =
             let at : key_at old m ≡ Some k = (number_iff old o k m).0 q in
@@ -116,11 +116,11 @@ module _ (old placed more : Records) (e : placed ≡ old ++ more) where
     pub sets_shrunk : (users : Key → List Key) → SameSets users (users_in placed lists) → SameSets users (users_in old lists)
     sets_shrunk users s = subst (SameSets users) (users_grown lists numbers_shrunk) s
 
--- users that are the old ones have old records
-pub known_users : (records : Records) (users later : Key → List Key) → IsLinked (seen records) users → SameSets users later → (j k : Key) → In k (later j) → IsSome (seen records k)
+-- reverse dependencies that are the old ones have old records
+pub known_users : (records : Records) (users later : Key → List Key) → IsLinked (records_of records) users → SameSets users later → (j k : Key) → In k (later j) → IsSome (records_of records k)
 known_users records users later l same j k i = ap is_some (l.used j k ((same j k).0 i)).1
 
--- the users that stand in the records, where the keys and the numbers stay
+-- the reverse dependencies that are in the records, where the keys and the numbers stay
 pub users_kept : (old new : Records) → keys_of new ≡ keys_of old → ((j : Key) → numbers_of new j ≡ numbers_of old j) → users_of new ≡ users_of old
 users_kept old new e s = λ i j. (ap (members_in new) (s j) ∙ members_same old new e (numbers_of old j)) i
 
@@ -133,24 +133,24 @@ distinct_kept old new e d = subst (λ ks. IsDistinct key_eq ks) (sym e) d
 pub within_kept : (old new : Records) → keys_of new ≡ keys_of old → (n : ℕ) → n < length old → n < length new
 within_kept old new e n h = subst (λ l. n < l) (sym (same_length old new e)) h
 
-pub linked_kept : (old new : Records) → keys_of new ≡ keys_of old → ((j : Key) → numbers_of new j ≡ numbers_of old j) → IsLinked (seen new) (users_of old) → AsksNumbers new → IsLinkedBy old → IsLinkedBy new
+pub linked_kept : (old new : Records) → keys_of new ≡ keys_of old → ((j : Key) → numbers_of new j ≡ numbers_of old j) → IsLinked (records_of new) (users_of old) → AsksNumbers new → IsLinkedBy old → IsLinkedBy new
 linked_kept old new e s l asks was = record {
-  linked = subst (IsLinked (seen new)) (sym (users_kept old new e s)) l;
+  linked = subst (IsLinked (records_of new)) (sym (users_kept old new e s)) l;
   numbers = numbers_kept old new e s was.numbers;
   asks = asks;
   ordered = distinct_kept old new e was.ordered;
 }
 
--- no more than the order of users has changed
+-- no more than the order of reverse dependencies has changed
 pub linked_again : (old new : Records) → KeepsRecords old new → SameSets (users_of old) (users_of new) → AreNumbers new (numbers_of new) → IsLinkedBy old → IsLinkedBy new
 linked_again old new s same a was = record {
-  linked = subst (λ (f : Key → Option (Record Key Value)). IsLinked f (users_of new)) (sym (keeps_seen old new s)) (linked_sets (seen old) (users_of old) (users_of new) same was.linked);
+  linked = subst (λ (f : Key → Option (Record Key Value)). IsLinked f (users_of new)) (sym (keeps_seen old new s)) (linked_sets (records_of old) (users_of old) (users_of new) same was.linked);
   numbers = a;
   asks = keeps_asks old new s was.asks;
   ordered = distinct_kept old new (keeps_keys old new s) was.ordered;
 }
 
--- records without users were put after the old ones
+-- records without reverse dependencies were put after the old ones
 module _ (old placed more : Records) (e : placed ≡ old ++ more) (lists : (j : Key) → numbers_of placed j ≡ numbers_of old j) (was : IsLinkedBy old) where
   pub users_put : users_of placed ≡ users_of old
   users_put = λ i j. (ap (members_in placed) (lists j) ∙ members_grown old placed more e (numbers_of old j) (was.numbers j)) i
@@ -158,8 +158,8 @@ module _ (old placed more : Records) (e : placed ≡ old ++ more) (lists : (j : 
   pub numbers_put : AreNumbers placed (numbers_of placed)
   numbers_put j n i = numbers_grown old placed more e (numbers_of old) was.numbers j n (subst (In n) (lists j) i)
 
-  pub linked_put : AreDistinct placed → AsksNumbers placed → IsLinked (seen placed) (users_of old) → IsLinkedBy placed
-  linked_put d asks l = record { linked = subst (IsLinked (seen placed)) (sym users_put) l; numbers = numbers_put; asks = asks; ordered = d }
+  pub linked_put : AreDistinct placed → AsksNumbers placed → IsLinked (records_of placed) (users_of old) → IsLinkedBy placed
+  linked_put d asks l = record { linked = subst (IsLinked (records_of placed)) (sym users_put) l; numbers = numbers_put; asks = asks; ordered = d }
 
 -- records were put after the old ones, and after a refusal the first ones are left
 module _ (old placed later front more rest : Records) (e : placed ≡ old ++ more) (f : later ≡ front ++ rest) (s : KeepsRecords placed later) (t : KeepsRecords old front)
@@ -173,7 +173,7 @@ module _ (old placed later front more rest : Records) (e : placed ≡ old ++ mor
   same : SameSets (users_of old) (users_in placed (numbers_of later))
   same = subst (SameSets (users_of old)) (sym (users_same later placed (numbers_of later) keys)) same_later
 
-  known : (j k : Key) → In k (users_in placed (numbers_of later) j) → IsSome (seen old k)
+  known : (j k : Key) → In k (users_in placed (numbers_of later) j) → IsSome (records_of old k)
   known = known_users old (users_of old) (users_in placed (numbers_of later)) was.linked same
 
   below : AreNumbers old (numbers_of later)
@@ -183,7 +183,7 @@ module _ (old placed later front more rest : Records) (e : placed ≡ old ++ mor
   sets = sets_shrunk old placed more e (numbers_of later) was.ordered d a known (users_of old) same
 
   front_lists : (j : Key) (x : NodeRecord) → kept_at front j ≡ Some x → numbers_of later j ≡ numbers_of front j
-  front_lists j x h = ap listed (ap (λ (es : Records). kept_at es j) f ∙ value_front front rest j x h ∙ sym h)
+  front_lists j x h = ap rdep_ids (ap (λ (es : Records). kept_at es j) f ∙ value_front front rest j x h ∙ sym h)
 
   front_users : (j : Key) (x : NodeRecord) → kept_at front j ≡ Some x → users_of front j ≡ users_in old (numbers_of later) j
   front_users j x h = members_same old front (keeps_keys old front t) (numbers_of front j) ∙ ap (members_in old) (sym (front_lists j x h))
@@ -199,7 +199,7 @@ module _ (old placed later front more rest : Records) (e : placed ≡ old ++ mor
   front_numbers j m i = go (kept_at front j) refl
     where
       go : (o : Option NodeRecord) → kept_at front j ≡ o → m < length front
-      go None h = absurd (not_in i (ap listed h))
+      go None h = absurd (not_in i (ap rdep_ids h))
       go (Some x) h = subst (λ l. m < l) (sym (same_length old front (keeps_keys old front t))) (below j m (subst (In m) (sym (front_lists j x h)) i))
 
   front_sets : SameSets (users_of old) (users_of front)
@@ -209,14 +209,14 @@ module _ (old placed later front more rest : Records) (e : placed ≡ old ++ mor
       to i = go (kept_at front j) refl
         where
           go : (o : Option NodeRecord) → kept_at front j ≡ o → In k (users_of old j)
-          go None h = absurd (not_in i (ap (λ o. members_in front (listed o)) h))
+          go None h = absurd (not_in i (ap (λ o. members_in front (rdep_ids o)) h))
           go (Some x) h = (sets j k).0 (subst (In k) (front_users j x h) i)
 
       back : In k (users_of old j) → In k (users_of front j)
       back i = go (kept_at front j) refl
         where
           go : (o : Option NodeRecord) → kept_at front j ≡ o → In k (users_of front j)
-          go None h = absurd (not_in i (ap (λ o. members_in old (listed o)) (none_before j h)))
+          go None h = absurd (not_in i (ap (λ o. members_in old (rdep_ids o)) (none_before j h)))
           go (Some x) h = subst (In k) (sym (front_users j x h)) ((sets j k).1 i)
 
   pub front_linked : IsLinkedBy front

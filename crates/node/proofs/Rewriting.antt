@@ -3,11 +3,11 @@ use Rattle.std.proofs.Common.{◌≡◌, ◌⊎◌, inl, inr, ℕ, Bool, true, f
 use Rattle.std.specs.List.{concat}
 use Rattle.std.specs.Map.{keys_of}
 use Rattle.std.specs.Option.{IsSome}
-use Rattle.evaluation.specs.Value.{In, IsMember}
+use Rattle.engine_semantics.specs.Value.{In, IsMember}
 use Rattle.keys.specs.declared.key.Key.{Key}
 use Rattle.keys.specs.declared.value.Value.{Value}
-use Rattle.evaluation.specs.Graph.{Record}
-use Rattle.numbered.specs.Flats.{groups_in, members_in}
+use Rattle.engine_semantics.specs.Graph.{Record}
+use Rattle.node_table.specs.Flats.{groups_in, members_in}
 use Rattle.node.specs.Records.{Records, Users, users_at}
 use Rattle.node.specs.Edges.{HasLinkedSome, HasLinkedAll, HasCut, HasUsers, among}
 use Rattle.node.specs.Graphs.{IsLinked}
@@ -77,7 +77,7 @@ module _ (records : Key → Option (Record Key Value)) (users : Users) (linked :
       kept = λ j x n i. cut.others j x n (some.keeps j x i);
     }
 
--- the same users in any order
+-- the same reverse dependencies in any order
 pub linked_sets : (records : Key → Option (Record Key Value)) (old new : Users) → SameSets old new → IsLinked records old → IsLinked records new
 linked_sets records old new same l = record {
   used = λ j k i. l.used j k ((same j k).0 i);
@@ -94,6 +94,6 @@ module _ (records : Records) (flat : List (List ℕ)) (ns : List ℕ) (groups : 
   pub member_flat : (j : Key) → IsMember j groups → In j (members_in records ns)
   member_flat j m = subst (λ (ms : List ℕ). In j (members_in records ms)) (sym all) (member_named (keys_of records) flat (subst (IsMember j) (sym is) m))
 
--- the key became a user of some of more members
+-- the key became a reverse dependency of some of more members
 pub linked_wider : {X : Type 0} (old new : Key → List X) (key : X) (M N : Key → Type 0) → ((j : Key) → M j → N j) → HasLinkedSome old new key M → HasLinkedSome old new key N
 linked_wider old new key M N wider some = record { from = λ j k i. elim (some.from j k i) [ inl a ↦ inl a | inr p ↦ inr (wider j p.0, p.1) ]; keeps = some.keeps }

@@ -1,4 +1,4 @@
--- What a contract sees of the records, and the users that stand in them.
+-- What a contract sees of the records, and the reverse dependencies that are in them.
 use Rattle.std.proofs.Common.{◌≡◌, inl, inr, ℕ, ◌<◌, ◌≤◌, ◌↔◌, Bool, true, false, cond, arith, List, [], ◌∷◌, ◌++◌, length, take, drop, zero, suc, Option, Some, None, refl, sym, ◌∙◌, ap, subst}
 use Rattle.std.specs.Option.{option_map, option_to_list, is_some, IsSome}
 use Rattle.std.specs.Map.{keys_of, set_value}
@@ -6,9 +6,9 @@ use Rattle.std.proofs.lemmas.List.{map-append, same_from_push, length-append, ta
 use Rattle.std.specs.Arc.{arc_value}
 use Rattle.std.specs.declared.sync.Arc.{Arc}
 use Rattle.std.specs.declared.alloc.Global.{Global}
-use Rattle.evaluation.specs.Graph.{Record}
-use Rattle.numbered.specs.Tables.{AreDistinct, key_at, value_at, value_of, Writes}
-use Rattle.numbered.proofs.Numbers.{value_by_number, value_pushed, others_pushed}
+use Rattle.engine_semantics.specs.Graph.{Record}
+use Rattle.node_table.specs.Tables.{AreDistinct, key_at, value_at, value_of, Writes}
+use Rattle.node_table.proofs.Numbers.{value_by_number, value_pushed, others_pushed}
 use Rattle.keys.specs.Keys.{key_eq}
 use Rattle.keys.specs.declared.key.Key.{Key}
 use Rattle.keys.specs.declared.value.Value.{Value}
@@ -17,11 +17,11 @@ use Rattle.std.specs.Prelude.{All, map}
 use Rattle.indexmap.specs.IndexMap.{set_value_at}
 use Rattle.std.specs.List.{concat, IsDistinct}
 use Rattle.std.proofs.lemmas.List.Elements.{All-nil}
-use Rattle.evaluation.specs.Value.{In, IsMember}
-use Rattle.numbered.specs.Flats.{groups_in, members_in}
-use Rattle.node.specs.Records.{Records, AsksNumbers, KeepsRecords, asked_of, by_keys, kept_at, listed, named, numbers_of, numbers_with, record_of, row_of, rows, shown}
-use Rattle.node.specs.Graphs.{seen, Sets}
-use Rattle.node.specs.Writes.{groups_at, stored, written}
+use Rattle.engine_semantics.specs.Value.{In, IsMember}
+use Rattle.node_table.specs.Flats.{groups_in, members_in}
+use Rattle.node.specs.Records.{Records, AsksNumbers, KeepsRecords, asked_of, by_keys, kept_at, rdep_ids, keys_at, numbers_of, numbers_with, record_of, row_of, rows, entries_of}
+use Rattle.node.specs.Graphs.{records_of, Sets}
+use Rattle.node.specs.Writes.{groups_at, settled_record, record_after_write}
 use Rattle.node.specs.Batches.{HasPlacedSome}
 use Rattle.node.proofs.Lists.{some_is, none_some, true_false, decide_key}
 use Rattle.node.proofs.Numbering.{concat_below, key_there, key_same, member_named, named_member, same_length}
@@ -33,7 +33,7 @@ rows_keys (e ∷ es) = ap (λ l. e.0 ∷ l) (rows_keys es)
 pub keeps_keys : (old new : Records) → KeepsRecords old new → keys_of new ≡ keys_of old
 keeps_keys old new s = sym (rows_keys new) ∙ ap (λ (es : List (Key × Record ℕ Value)). keys_of es) s ∙ rows_keys old
 
-pub keeps_shown : (old new : Records) → KeepsRecords old new → shown new ≡ shown old
+pub keeps_shown : (old new : Records) → KeepsRecords old new → entries_of new ≡ entries_of old
 keeps_shown old new s = λ i. map (λ (e : Key × Record ℕ Value). (e.0, by_keys (keeps_keys old new s i) e.1)) (s i)
 
 rows_value : (es : Records) (k : Key) → value_of (rows es) k ≡ option_map row_of (kept_at es k)
@@ -51,7 +51,7 @@ by_rows : (keys : List Key) (o : Option NodeRecord) → option_map (record_of ke
 by_rows keys None = refl
 by_rows keys (Some e) = refl
 
-pub keeps_seen : (old new : Records) → KeepsRecords old new → seen new ≡ seen old
+pub keeps_seen : (old new : Records) → KeepsRecords old new → records_of new ≡ records_of old
 keeps_seen old new s = λ i k. (by_rows (keys_of new) (kept_at new k) ∙ (λ x. option_map (by_keys (keeps_keys old new s x)) (keeps_rows old new s k x)) ∙ sym (by_rows (keys_of old) (kept_at old k))) i
 
 -- the members stay numbers of records
@@ -68,10 +68,10 @@ keeps_asks old new s a k e h = go (kept_at old k) refl
         subst (λ l. All (All (λ n. n < l)) e.groups) (sym length_same) (subst (λ (r : Record ℕ Value). All (All (λ n. n < length old)) r.groups) same (a k x q))
 
 -- the same record under the same keys
-pub seen_same : (old new : Records) (k : Key) → keys_of new ≡ keys_of old → kept_at new k ≡ kept_at old k → seen new k ≡ seen old k
+pub seen_same : (old new : Records) (k : Key) → keys_of new ≡ keys_of old → kept_at new k ≡ kept_at old k → records_of new k ≡ records_of old k
 seen_same old new k e h = λ i. option_map (record_of (e i)) (h i)
 
--- a record whose users alone are written
+-- a record whose reverse dependencies alone are written
 pub rows_set : (es : Records) (k : Key) (e w : NodeRecord) → kept_at es k ≡ Some e → row_of w ≡ row_of e → rows (set_value (key_eq k) es w) ≡ rows es
 rows_set [] k e w h q = refl
 rows_set (x ∷ es) k e w h q = go (key_eq k x.0) refl (λ g. rows_set es k e w g q)
@@ -97,31 +97,31 @@ rows_take (suc n) [] = refl
 rows_take (suc n) (e ∷ es) = ap (λ l. (e.0, row_of e.1) ∷ l) (rows_take n es)
 
 -- a record that is written
-pub writes_sets : (old new : Records) (key : Key) (w : NodeRecord) → Writes old new key w → Sets (seen old) (seen new) key (record_of (keys_of old) w)
+pub writes_sets : (old new : Records) (key : Key) (w : NodeRecord) → Writes old new key w → Sets (records_of old) (records_of new) key (record_of (keys_of old) w)
 writes_sets old new key w u = record { there = λ i. option_map (record_of (u.keys i)) (u.there i); others = λ j n. seen_same old new j u.keys (u.others j n) }
 
--- and keeps its users
+-- and keeps its reverse dependencies
 pub writes_lists : (old new : Records) (key : Key) (e w : NodeRecord) → kept_at old key ≡ Some e → w.users ≡ e.users → Writes old new key w → (j : Key) → numbers_of new j ≡ numbers_of old j
 writes_lists old new key e w h same u j = elim (decide_key key j) [
-  | inl q ↦ subst (λ x. numbers_of new x ≡ numbers_of old x) q (ap listed u.there ∙ (λ i. (same i).items) ∙ sym (ap listed h))
-  | inr n ↦ ap listed (u.others j n)
+  | inl q ↦ subst (λ x. numbers_of new x ≡ numbers_of old x) q (ap rdep_ids u.there ∙ (λ i. (same i).items) ∙ sym (ap rdep_ids h))
+  | inr n ↦ ap rdep_ids (u.others j n)
 ]
 
--- the users of a number are those of its key
+-- the reverse dependencies of a number are those of its key
 pub lists_by_number : (records : Records) → AreDistinct records → (k : Key) (n : ℕ) → key_at records n ≡ Some k → numbers_with records n ≡ numbers_of records k
-lists_by_number records d k n h = sym (ap listed (value_by_number records d k n h))
+lists_by_number records d k n h = sym (ap rdep_ids (value_by_number records d k n h))
 
--- and stay where the keys and their users do
+-- and stay where the keys and their reverse dependencies do
 pub lists_same : (old new : Records) → AreDistinct old → keys_of new ≡ keys_of old → ((j : Key) → numbers_of new j ≡ numbers_of old j) → (n : ℕ) → n < length old → numbers_with new n ≡ numbers_with old n
 lists_same old new d e s n h =
     let k = key_there old n h in
     lists_by_number new (subst (λ ks. IsDistinct key_eq ks) (sym e) d) k.0 n (key_same old new e n ∙ k.1) ∙ s k.0 ∙ sym (lists_by_number old d k.0 n k.1)
 
--- a record without users is put after the others
+-- a record without reverse dependencies is put after the others
 pub pushed_lists : (old new : Records) (key : Key) (e : NodeRecord) → new ≡ old ++ (key, e) ∷ [] → e.users.items ≡ [] → kept_at old key ≡ None → (j : Key) → numbers_of new j ≡ numbers_of old j
 pushed_lists old new key e p u none j = ap (λ (es : Records). numbers_of es j) p ∙ elim (decide_key key j) [
-  | inl q ↦ subst (λ x. numbers_of (old ++ (key, e) ∷ []) x ≡ numbers_of old x) q (ap listed (value_pushed old key e none) ∙ u ∙ sym (ap listed none))
-  | inr n ↦ ap listed (others_pushed old key e j n)
+  | inl q ↦ subst (λ x. numbers_of (old ++ (key, e) ∷ []) x ≡ numbers_of old x) q (ap rdep_ids (value_pushed old key e none) ∙ u ∙ sym (ap rdep_ids none))
+  | inr n ↦ ap rdep_ids (others_pushed old key e j n)
 ]
 
 -- the first records of a table
@@ -151,12 +151,12 @@ pub first_rows : (old placed later more : Records) → KeepsRecords placed later
 first_rows old placed later more s p =
     rows_take (length old) later ∙ ap (take (length old)) (s ∙ ap rows p ∙ rows_append old more) ∙ take_at (rows old) (rows more) (length old) (length-map old (λ (e : Key × NodeRecord). (e.0, row_of e.1)))
 
--- a loan of a record through which no more than users was written
+-- a loan of a record through which no more than reverse dependencies was written
 pub through_same : (old new : Records) (k : Key) (e w : NodeRecord) → new ≡ set_value (key_eq k) old w → Some e ≡ kept_at old k → row_of w ≡ row_of e → KeepsRecords old new
 through_same old new k e w p had q = ap rows p ∙ rows_set old k e w (sym had) q
 
 -- the groups of a number are those of its key
-pub groups_by_number : (records : Records) → AreDistinct records → (k : Key) (n : ℕ) (e : NodeRecord) → key_at records n ≡ Some k → value_at records n ≡ Some e → groups_at (seen records k) ≡ groups_in records e.groups
+pub groups_by_number : (records : Records) → AreDistinct records → (k : Key) (n : ℕ) (e : NodeRecord) → key_at records n ≡ Some k → value_at records n ≡ Some e → groups_at (records_of records k) ≡ groups_in records e.groups
 groups_by_number records d k n e h v = ap (λ o. groups_at (option_map (record_of (keys_of records)) o)) (value_by_number records d k n h ∙ v)
 
 -- a record that is seen is kept
@@ -188,14 +188,14 @@ asked_rows (Some e) = refl
 pub keeps_asked : (old new : Records) → KeepsRecords old new → (k : Key) → asked_of (kept_at new k) ≡ asked_of (kept_at old k)
 keeps_asked old new s k = asked_rows (kept_at new k) ∙ ap rows_asked (keeps_rows old new s k) ∙ sym (asked_rows (kept_at old k))
 
-pub asked_member : (records : Records) (k j : Key) → In j (members_in records (asked_of (kept_at records k))) → IsMember j (groups_at (seen records k))
+pub asked_member : (records : Records) (k j : Key) → In j (members_in records (asked_of (kept_at records k))) → IsMember j (groups_at (records_of records k))
 asked_member records k j i = go (kept_at records k) i
   where
     go : (o : Option NodeRecord) → In j (members_in records (asked_of o)) → IsMember j (groups_at (option_map (record_of (keys_of records)) o))
     go None x = elim x [ ]
     go (Some e) x = named_member (keys_of records) e.groups x
 
-pub member_asked : (records : Records) (k j : Key) → IsMember j (groups_at (seen records k)) → In j (members_in records (asked_of (kept_at records k)))
+pub member_asked : (records : Records) (k j : Key) → IsMember j (groups_at (records_of records k)) → In j (members_in records (asked_of (kept_at records k)))
 member_asked records k j m = go (kept_at records k) m
   where
     go : (o : Option NodeRecord) → IsMember j (groups_at (option_map (record_of (keys_of records)) o)) → In j (members_in records (asked_of o))
@@ -209,24 +209,24 @@ asked_below records a k = go (kept_at records k) refl
     go None h = All-nil (λ n. n < length records)
     go (Some e) h = concat_below (length records) e.groups (a k e h)
 
--- a record is written over what was kept, and then no more than users changes
+-- a record is written over what was kept, and then no more than reverse dependencies changes
 module _ (old middle wrote final : Records) (key : Key) (e : NodeRecord) (value : Arc Value Global) (flat : List (List ℕ)) (version : ℕ) (s : KeepsRecords old middle) (had : kept_at middle key ≡ Some e)
-    (u : Writes middle wrote key (written e value flat version)) (t : KeepsRecords wrote final) where
-  pub was_kept : seen old key ≡ Some (record_of (keys_of middle) e)
+    (u : Writes middle wrote key (record_after_write e value flat version)) (t : KeepsRecords wrote final) where
+  pub was_kept : records_of old key ≡ Some (record_of (keys_of middle) e)
   was_kept = sym (λ i. keeps_seen old middle s i key) ∙ ap (option_map (record_of (keys_of middle))) had
 
   pub rewritten_keys : keys_of final ≡ keys_of old
   rewritten_keys = keeps_keys wrote final t ∙ u.keys ∙ keeps_keys old middle s
 
-  pub rewritten_sets : (groups : List (List Key)) → groups_in old flat ≡ groups → Sets (seen old) (seen final) key (stored (seen old key) (arc_value value) groups version)
+  pub rewritten_sets : (groups : List (List Key)) → groups_in old flat ≡ groups → Sets (records_of old) (records_of final) key (settled_record (records_of old key) (arc_value value) groups version)
   rewritten_sets groups g =
-      subst (λ gs. Sets (seen old) (seen final) key (stored (seen old key) (arc_value value) gs version)) ((λ i. map (named (keeps_keys old middle s i)) flat) ∙ g)
-      (subst (λ o. Sets (seen old) (seen final) key (stored o (arc_value value) (map (named (keys_of middle)) flat) version)) (sym was_kept)
-      (subst (λ (f : Key → Option (Record Key Value)). Sets f (seen final) key (record_of (keys_of middle) (written e value flat version))) (keeps_seen old middle s)
-      (subst (λ (f : Key → Option (Record Key Value)). Sets (seen middle) f key (record_of (keys_of middle) (written e value flat version))) (sym (keeps_seen wrote final t)) (writes_sets middle wrote key (written e value flat version) u))))
+      subst (λ gs. Sets (records_of old) (records_of final) key (settled_record (records_of old key) (arc_value value) gs version)) ((λ i. map (keys_at (keeps_keys old middle s i)) flat) ∙ g)
+      (subst (λ o. Sets (records_of old) (records_of final) key (settled_record o (arc_value value) (map (keys_at (keys_of middle)) flat) version)) (sym was_kept)
+      (subst (λ (f : Key → Option (Record Key Value)). Sets f (records_of final) key (record_of (keys_of middle) (record_after_write e value flat version))) (keeps_seen old middle s)
+      (subst (λ (f : Key → Option (Record Key Value)). Sets (records_of middle) f key (record_of (keys_of middle) (record_after_write e value flat version))) (sym (keeps_seen wrote final t)) (writes_sets middle wrote key (record_after_write e value flat version) u))))
 
   pub rewritten_lists : numbers_of wrote ≡ numbers_of middle
-  rewritten_lists = λ i j. writes_lists middle wrote key e (written e value flat version) had refl u j i
+  rewritten_lists = λ i j. writes_lists middle wrote key e (record_after_write e value flat version) had refl u j i
 
   pub rewritten_asks : All (All (λ n. n < length old)) flat → AsksNumbers old → AsksNumbers final
   rewritten_asks within a = keeps_asks wrote final t asks
@@ -237,7 +237,7 @@ module _ (old middle wrote final : Records) (key : Key) (e : NodeRecord) (value 
       asks : AsksNumbers wrote
       asks k x h = elim (decide_key key k) [
         | inl q ↦
-            let is : written e value flat version ≡ x = some_is (sym u.there ∙ ap (kept_at wrote) q ∙ h) in
+            let is : record_after_write e value flat version ≡ x = some_is (sym u.there ∙ ap (kept_at wrote) q ∙ h) in
             subst (λ (y : NodeRecord). All (All (λ n. n < length wrote)) y.groups) is (subst (λ l. All (All (λ n. n < l)) flat) (sym size) within)
         | inr n ↦ subst (λ l. All (All (λ m. m < l)) x.groups) (sym (same_length middle wrote u.keys)) (keeps_asks old middle s a k x (sym (u.others k n) ∙ h))
       ]

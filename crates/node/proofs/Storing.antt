@@ -1,8 +1,8 @@
 -- A record is stored, for a key that has one and for a key that has none.
 use Rattle.std.proofs.Common.{◌≡◌, ◌≢◌, inl, inr, ℕ, Bool, true, false, cond, List, [], ◌∷◌, ◌++◌, Option, Some, None, refl, sym, ◌∙◌, ap, subst, arith}
 use Rattle.std.specs.Option.{option_map, is_some, IsSome}
-use Rattle.evaluation.specs.Graph.{Record}
-use Rattle.evaluation.specs.Value.{IsMember}
+use Rattle.engine_semantics.specs.Graph.{Record}
+use Rattle.engine_semantics.specs.Value.{IsMember}
 use Rattle.keys.specs.Values.{value_eq}
 use Rattle.keys.specs.declared.key.Key.{Key}
 use Rattle.keys.specs.declared.value.Value.{Value}
@@ -12,17 +12,17 @@ use Rattle.std.specs.Arc.{arc_value}
 use Rattle.std.specs.Map.{keys_of}
 use Rattle.std.proofs.lemmas.List.{map-append, length-append}
 use Rattle.std.proofs.lemmas.List.Elements.{All-nil}
-use Rattle.numbered.specs.Tables.{Grows}
-use Rattle.numbered.proofs.Flats.{groups_stay}
+use Rattle.node_table.specs.Tables.{Grows}
+use Rattle.node_table.proofs.Flats.{groups_stay}
 use Rattle.node.specs.Records.{Records, Users, AsksNumbers, by_keys, kept_at, record_of, row_of}
 use Rattle.node.proofs.Numbering.{all_below}
 use Rattle.node.specs.Edges.{HasUsers}
-use Rattle.node.specs.Graphs.{GraphView, recorded, record_at, seen, IsLinked, Sets}
-use Rattle.node.specs.Writes.{stored, HasReadyMembers}
+use Rattle.node.specs.Graphs.{GraphView, recorded, record_at, records_of, IsLinked, Sets}
+use Rattle.node.specs.Writes.{settled_record, HasReadyMembers}
 use Rattle.node.proofs.Lists.{none_some, some_is, true_false, not_in, decide_key}
 use Rattle.node.proofs.Linking.{seen_all}
 use Rattle.node.proofs.Writing.{written_linked}
-use Rattle.numbered.proofs.Numbers.{value_pushed, others_pushed}
+use Rattle.node_table.proofs.Numbers.{value_pushed, others_pushed}
 
 -- the members have clean records after the write
 ready_now : (old new : Key → Option (Record Key Value)) (key : Key) (r : Record Key Value) → new key ≡ Some r → r.dirty ≡ false → ((j : Key) → key ≢ j → new j ≡ old j) → (groups : List (List Key)) → HasReadyMembers old key groups
@@ -50,7 +50,7 @@ placed_members old placed key groups own others ready j m = elim (decide_key key
 ]
 
 -- a record that was put there without groups is stored again
-pub stored_over : (value : Value) (groups : List (List Key)) (version : ℕ) → stored (Some (stored None value [] version)) value groups version ≡ stored None value groups version
+pub stored_over : (value : Value) (groups : List (List Key)) (version : ℕ) → settled_record (Some (settled_record None value [] version)) value groups version ≡ settled_record None value groups version
 stored_over value groups version = ap (λ (n : ℕ). record { value = value; groups = groups; settled_at = version; changed_at = n; dirty = false }) (either (value_eq value value))
   where
     either : (b : Bool) → cond b version version ≡ version
@@ -59,23 +59,23 @@ stored_over value groups version = ap (λ (n : ℕ). record { value = value; gro
 
 module _ (old new : Key → Option (Record Key Value)) (key : Key) (value : Value) (groups : List (List Key)) (version : ℕ) (ready : HasReadyMembers old key groups) where
   -- the key had a record
-  pub stored_again : (old_users users : Users) → HasUsers old_users users key groups → IsLinked old old_users → Sets old new key (stored (old key) value groups version) → IsLinked new users
+  pub stored_again : (old_users users : Users) → HasUsers old_users users key groups → IsLinked old old_users → Sets old new key (settled_record (old key) value groups version) → IsLinked new users
   stored_again old_users users uses linked s =
-      written_linked old new old_users users key (stored (old key) value groups version) s linked uses refl (ready_now old new key (stored (old key) value groups version) s.there refl s.others groups ready)
+      written_linked old new old_users users key (settled_record (old key) value groups version) s linked uses refl (ready_now old new key (settled_record (old key) value groups version) s.there refl s.others groups ready)
 
   -- the key had none, and one without groups was put there first
-  module _ (placed : Key → Option (Record Key Value)) (there : placed key ≡ Some (stored None value [] version)) (others : (j : Key) → key ≢ j → placed j ≡ old j) (none : old key ≡ None)
-      (s : Sets placed new key (stored (placed key) value groups version)) where
-    pub stored_first : Sets old new key (stored (old key) value groups version)
+  module _ (placed : Key → Option (Record Key Value)) (there : placed key ≡ Some (settled_record None value [] version)) (others : (j : Key) → key ≢ j → placed j ≡ old j) (none : old key ≡ None)
+      (s : Sets placed new key (settled_record (placed key) value groups version)) where
+    pub stored_first : Sets old new key (settled_record (old key) value groups version)
     stored_first = record {
-      there = s.there ∙ ap Some (ap (λ o. stored o value groups version) there ∙ stored_over value groups version ∙ ap (λ o. stored o value groups version) (sym none));
+      there = s.there ∙ ap Some (ap (λ o. settled_record o value groups version) there ∙ stored_over value groups version ∙ ap (λ o. settled_record o value groups version) (sym none));
       others = λ j n. s.others j n ∙ others j n;
     }
 
     pub first_linked : (old_users users : Users) → HasUsers old_users users key groups → IsLinked placed old_users → IsLinked new users
     first_linked old_users users uses linked =
-        written_linked placed new old_users users key (stored (placed key) value groups version) s linked uses refl
-        (ready_now old new key (stored (placed key) value groups version) s.there refl (λ j n. s.others j n ∙ others j n) groups ready)
+        written_linked placed new old_users users key (settled_record (placed key) value groups version) s linked uses refl
+        (ready_now old new key (settled_record (placed key) value groups version) s.there refl (λ j n. s.others j n ∙ others j n) groups ready)
 
 -- a record without groups keeps the parts linked
 pub placed_linked : (old placed : Key → Option (Record Key Value)) (users : Users) (key : Key) (p : Record Key Value) → placed key ≡ Some p → ((k : Key) → key ≢ k → placed k ≡ old k) → p.groups ≡ [] → old key ≡ None → IsLinked old users → IsLinked placed users
@@ -116,13 +116,13 @@ module _ (old placed : Records) (key : Key) (p : NodeRecord) (value : Value) (ve
   at_others : (k : Key) → key ≢ k → kept_at placed k ≡ kept_at old k
   at_others k n = ap (λ (es : Records). kept_at es k) e ∙ others_pushed old key p k n
 
-  pub placed_there : seen placed key ≡ Some (stored None value [] version)
+  pub placed_there : records_of placed key ≡ Some (settled_record None value [] version)
   placed_there = ap (option_map (record_of (keys_of placed))) at_key ∙ ap (λ (r : Record ℕ Value). Some (by_keys (keys_of placed) r)) is
 
-  pub placed_others : (k : Key) → key ≢ k → seen placed k ≡ seen old k
+  pub placed_others : (k : Key) → key ≢ k → records_of placed k ≡ records_of old k
   placed_others k n = ap (option_map (record_of (keys_of placed))) (at_others k n) ∙ go (kept_at old k) refl
     where
-      go : (o : Option NodeRecord) → kept_at old k ≡ o → option_map (record_of (keys_of placed)) (kept_at old k) ≡ seen old k
+      go : (o : Option NodeRecord) → kept_at old k ≡ o → option_map (record_of (keys_of placed)) (kept_at old k) ≡ records_of old k
       go None q = ap (option_map (record_of (keys_of placed))) q ∙ sym (ap (option_map (record_of (keys_of old))) q)
       go (Some x) q =
           ap (option_map (record_of (keys_of placed))) q
@@ -147,15 +147,15 @@ present_at keys (Some x) b e t = refl
 
 -- what a contract of the graph sees of it
 module _ (old : Records) (version : ℕ) (was : GraphView) (b : recorded version old ≡ was) where
-  pub seen_was : record_at was ≡ seen old
+  pub seen_was : record_at was ≡ records_of old
   seen_was = ap record_at (sym b) ∙ seen_all old version
 
-  pub ready_seen : (key : Key) (groups : List (List Key)) → HasReadyMembers (record_at was) key groups → HasReadyMembers (seen old) key groups
+  pub ready_seen : (key : Key) (groups : List (List Key)) → HasReadyMembers (record_at was) key groups → HasReadyMembers (records_of old) key groups
   ready_seen key groups r = subst (λ (f : Key → Option (Record Key Value)). HasReadyMembers f key groups) seen_was r
 
-  pub stored_seen : (new : Records) (key : Key) (value : Value) (groups : List (List Key)) → Sets (seen old) (seen new) key (stored (seen old key) value groups version)
-      → Sets (record_at was) (record_at (recorded version new)) key (stored (record_at was key) value groups was.version)
+  pub stored_seen : (new : Records) (key : Key) (value : Value) (groups : List (List Key)) → Sets (records_of old) (records_of new) key (settled_record (records_of old key) value groups version)
+      → Sets (record_at was) (record_at (recorded version new)) key (settled_record (record_at was key) value groups was.version)
   stored_seen new key value groups s =
-      subst (λ (n : ℕ). Sets (record_at was) (record_at (recorded version new)) key (stored (record_at was key) value groups n)) (ap (λ (x : GraphView). x.version) b)
-      (subst (λ (f : Key → Option (Record Key Value)). Sets f (record_at (recorded version new)) key (stored (f key) value groups version)) (sym seen_was)
-      (subst (λ (f : Key → Option (Record Key Value)). Sets (seen old) f key (stored (seen old key) value groups version)) (sym (seen_all new version)) s))
+      subst (λ (n : ℕ). Sets (record_at was) (record_at (recorded version new)) key (settled_record (record_at was key) value groups n)) (ap (λ (x : GraphView). x.version) b)
+      (subst (λ (f : Key → Option (Record Key Value)). Sets f (record_at (recorded version new)) key (settled_record (f key) value groups version)) (sym seen_was)
+      (subst (λ (f : Key → Option (Record Key Value)). Sets (records_of old) f key (settled_record (records_of old key) value groups version)) (sym (seen_all new version)) s))

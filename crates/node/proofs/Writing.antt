@@ -2,9 +2,9 @@
 use Rattle.std.proofs.Common.{◌≡◌, ◌≢◌, inl, inr, ℕ, true, false, Option, Some, None, refl, sym, ◌∙◌, ap, subst}
 use Rattle.std.specs.Option.{is_some, IsSome}
 use Rattle.std.specs.Map.{keys_of}
-use Rattle.evaluation.specs.Graph.{Record}
-use Rattle.evaluation.specs.Value.{In, IsMember}
-use Rattle.numbered.specs.Tables.{Writes}
+use Rattle.engine_semantics.specs.Graph.{Record}
+use Rattle.engine_semantics.specs.Value.{In, IsMember}
+use Rattle.node_table.specs.Tables.{Writes}
 use Rattle.keys.specs.declared.key.Key.{Key}
 use Rattle.keys.specs.declared.value.Value.{Value}
 use Rattle.node.specs.declared.records.NodeRecord.{NodeRecord}
@@ -12,7 +12,7 @@ use Rattle.std.specs.Prelude.{All, ◌<◌, length}
 use Rattle.node.specs.Records.{Records, Users, AsksNumbers, kept_at, numbers_of, users_at}
 use Rattle.node.proofs.Numbering.{same_length}
 use Rattle.node.specs.Edges.{HasUsers}
-use Rattle.node.specs.Graphs.{GraphView, recorded, record_at, seen, IsLinked, HasCleanMembers, Sets}
+use Rattle.node.specs.Graphs.{GraphView, recorded, record_at, records_of, IsLinked, HasCleanMembers, Sets}
 use Rattle.node.proofs.Lists.{some_is, true_false, decide_key}
 use Rattle.node.proofs.Linking.{seen_all, is_kept}
 use Rattle.node.proofs.Showing.{writes_sets, writes_lists}
@@ -59,30 +59,30 @@ module _ (old new : Key → Option (Record Key Value)) (old_users users : Users)
   }
 
 -- what a contract of the graph sees of it
-pub sets_shown : (old new : Records) (key : Key) (r : Record Key Value) (version later_version : ℕ) (was : GraphView) → recorded version old ≡ was → Sets (seen old) (seen new) key r → Sets (record_at was) (record_at (recorded later_version new)) key r
+pub sets_shown : (old new : Records) (key : Key) (r : Record Key Value) (version later_version : ℕ) (was : GraphView) → recorded version old ≡ was → Sets (records_of old) (records_of new) key r → Sets (record_at was) (record_at (recorded later_version new)) key r
 sets_shown old new key r version later_version was b s =
     subst (λ (g : GraphView). Sets (record_at g) (record_at (recorded later_version new)) key r) b
     (subst (λ (f : Key → Option (Record Key Value)). Sets f (record_at (recorded later_version new)) key r) (sym (seen_all old version))
-    (subst (λ (f : Key → Option (Record Key Value)). Sets (seen old) f key r) (sym (seen_all new later_version)) s))
+    (subst (λ (f : Key → Option (Record Key Value)). Sets (records_of old) f key r) (sym (seen_all new later_version)) s))
 
--- a record that is only settled keeps its users
-module _ (old new : Records) (users : Users) (key : Key) (version : ℕ) (linked : IsLinked (seen old) users)
+-- a record that is only settled keeps its reverse dependencies
+module _ (old new : Records) (users : Users) (key : Key) (version : ℕ) (linked : IsLinked (records_of old) users)
     (u : (e : NodeRecord) → kept_at old key ≡ Some e → Writes old new key (record e { settled_at = version; dirty = false }))
     (was : GraphView) (b : recorded version old ≡ was) (clean : HasCleanMembers (record_at was) key) where
-  was_seen : record_at was ≡ seen old
+  was_seen : record_at was ≡ records_of old
   was_seen = ap record_at (sym b) ∙ seen_all old version
 
-  clean_seen : HasCleanMembers (seen old) key
+  clean_seen : HasCleanMembers (records_of old) key
   clean_seen = subst (λ (f : Key → Option (Record Key Value)). HasCleanMembers f key) was_seen clean
 
   abbrev settled : Record Key Value → Record Key Value
   settled r = record r { settled_at = version; dirty = false }
 
-  sets_settled : (r : Record Key Value) → seen old key ≡ Some r → Sets (seen old) (seen new) key (settled r)
+  sets_settled : (r : Record Key Value) → records_of old key ≡ Some r → Sets (records_of old) (records_of new) key (settled r)
   sets_settled r h = let p = is_kept old key r h in
-      subst (λ (y : Record Key Value). Sets (seen old) (seen new) key (settled y)) p.2 (writes_sets old new key (record p.0 { settled_at = version; dirty = false }) (u p.0 p.1))
+      subst (λ (y : Record Key Value). Sets (records_of old) (records_of new) key (settled y)) p.2 (writes_sets old new key (record p.0 { settled_at = version; dirty = false }) (u p.0 p.1))
 
-  same_users : (r : Record Key Value) → seen old key ≡ Some r → HasUsers users users key r.groups
+  same_users : (r : Record Key Value) → records_of old key ≡ Some r → HasUsers users users key r.groups
   same_users r h = record {
     own = λ j i. let p = linked.used j key i in subst (λ (y : Record Key Value). IsMember j y.groups) (some_is (sym p.1 ∙ h)) p.2;
     has = λ j i. linked.complete j key r h i;
@@ -90,23 +90,23 @@ module _ (old new : Records) (users : Users) (key : Key) (version : ℕ) (linked
     kept = λ j k n i. i;
   }
 
-  ready_now : (r : Record Key Value) → seen old key ≡ Some r → (j : Key) → IsMember j r.groups → (s : Record Key Value) × (seen new j ≡ Some s) × (s.dirty ≡ false)
+  ready_now : (r : Record Key Value) → records_of old key ≡ Some r → (j : Key) → IsMember j r.groups → (s : Record Key Value) × (records_of new j ≡ Some s) × (s.dirty ≡ false)
   ready_now r h j i =
       let s = linked.members j key r h i in
       elim (decide_key key j) [
-        | inl q ↦ (settled r, ap (seen new) (sym q) ∙ (sets_settled r h).there, refl)
+        | inl q ↦ (settled r, ap (records_of new) (sym q) ∙ (sets_settled r h).there, refl)
         | inr n ↦ (s.0, (sets_settled r h).others j n ∙ s.1, clean_seen r s.0 j h i s.1)
       ]
 
-  recorded_there : IsSome (record_at was key) → (r : Record Key Value) × (seen old key ≡ Some r)
-  recorded_there g = go (seen old key) refl
+  recorded_there : IsSome (record_at was key) → (r : Record Key Value) × (records_of old key ≡ Some r)
+  recorded_there g = go (records_of old key) refl
     where
-      go : (o : Option (Record Key Value)) → seen old key ≡ o → (r : Record Key Value) × (o ≡ Some r)
+      go : (o : Option (Record Key Value)) → records_of old key ≡ o → (r : Record Key Value) × (o ≡ Some r)
       go None q = absurd (true_false g (ap is_some ((λ i. was_seen i key) ∙ q)))
       go (Some r) q = (r, refl)
 
-  pub settled_linked : IsSome (record_at was key) → IsLinked (seen new) users
-  settled_linked g = let p = recorded_there g in written_linked (seen old) (seen new) users users key (settled p.0) (sets_settled p.0 p.1) linked (same_users p.0 p.1) refl (ready_now p.0 p.1)
+  pub settled_linked : IsSome (record_at was key) → IsLinked (records_of new) users
+  settled_linked g = let p = recorded_there g in written_linked (records_of old) (records_of new) users users key (settled p.0) (sets_settled p.0 p.1) linked (same_users p.0 p.1) refl (ready_now p.0 p.1)
 
   pub settled_keys : IsSome (record_at was key) → keys_of new ≡ keys_of old
   settled_keys g = let p = recorded_there g in let k = is_kept old key p.0 p.1 in (u k.0 k.1).keys

@@ -7,7 +7,7 @@ use Rattle.node.specs.declared.records.NodeRecord.{NodeRecord}
 use Rattle.node.specs.Records.{Records}
 use Rattle.node.specs.Graphs.{GraphView}
 
--- the members of all groups, each as often as it stands there
+-- the members of all groups, each as often as it is there
 abbrev pub members_of : List (List Key) → ℕ
 members_of groups = sum_by length groups
 
@@ -15,7 +15,7 @@ members_of groups = sum_by length groups
 abbrev pub edges_of : GraphView → ℕ
 edges_of graph = sum_by (λ e. members_of e.1.groups) graph.records
 
--- the same of what is kept
+-- the same for what is kept
 abbrev pub size : NodeRecord → ℕ
 size e = length (concat e.groups)
 

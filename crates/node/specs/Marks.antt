@@ -1,9 +1,9 @@
--- What marks are spread along reverse edges.
+-- What is marked dirty along reverse edges.
 use Rattle.std.specs.Prelude.{◌≡◌, ◌⊎◌, ◌<◌, ℕ, Bool, true, false, List, [], ◌∷◌, ◌++◌, Some, None, All, length}
 use Rattle.std.specs.Map.{keys_of}
-use Rattle.evaluation.specs.Value.{In}
+use Rattle.engine_semantics.specs.Value.{In}
 use Rattle.keys.specs.declared.key.Key.{Key}
-use Rattle.numbered.specs.Tables.{Writes}
+use Rattle.node_table.specs.Tables.{Writes}
 use Rattle.node.specs.declared.records.NodeRecord.{NodeRecord}
 use Rattle.node.specs.Records.{Records, Users, kept_at, users_at, numbers_of}
 
@@ -11,7 +11,7 @@ use Rattle.node.specs.Records.{Records, Users, kept_at, users_at, numbers_of}
 abbrev pub IsDirty : Records → Key → Type 0
 IsDirty records k = (e : NodeRecord) → kept_at records k ≡ Some e → e.dirty ≡ true
 
--- k is a leaf of the list, or a user of what is reached
+-- k is a leaf of the list, or a reverse dependency of what is reached
 pub data IsReached (users : Users) (leaves : List Key) : Key → Type 0 where
   at_leaf : {k : Key} → In k leaves → IsReached users leaves k
   by_user : {j k : Key} → IsReached users leaves j → In k (users_at users j) → IsReached users leaves k
@@ -43,18 +43,18 @@ pub record HasReachedSome (old new : Records) (before after keys : List Key) : T
 abbrev pub HasReachedAll : Records → List Key → Type 0
 HasReachedAll new keys = (k : Key) → In k keys → IsDirty new k
 
--- marks were spread from the listed keys
+-- records were marked dirty from the listed keys
 pub record HasSpread (users : Users) (old new : Records) (before after : List Key) : Type 0 where
   pub marks : (leaves : List Key) (original : Records) → Marked users leaves original old before → Marked users leaves original new after
   pub still : (k : Key) → IsDirty old k → IsDirty new k
   pub same_keys : keys_of new ≡ keys_of old
   pub same_lists : (j : Key) → numbers_of new j ≡ numbers_of old j
 
--- the users of these keys are dirty
+-- the reverse dependencies of these keys are dirty
 abbrev pub HasPassed : Users → Records → List Key → Type 0
 HasPassed users records keys = (j : Key) → In j keys → (k : Key) → In k (users_at users j) → IsDirty records k
 
--- the marks of these keys' records are set to this, and nothing else changes
+-- the dirty flags of these keys' records are set to this, and nothing else changes
 pub record SetsMarks (dirty : Bool) (old new : Records) (keys : List Key) : Type 0 where
   pub each : (k : Key) → In k keys → (e : NodeRecord) → kept_at old k ≡ Some e → kept_at new k ≡ Some (record e { dirty = dirty })
   pub none : (k : Key) → kept_at old k ≡ None → kept_at new k ≡ None

@@ -6,54 +6,54 @@ use Rattle.std.specs.Arc.{arc_value}
 use Rattle.std.specs.declared.alloc.Global.{Global}
 use Rattle.std.specs.declared.vec.Vec.{Vec}
 use Rattle.std.specs.Map.{keys_of, values_of}
-use Rattle.evaluation.specs.Graph.{Record}
+use Rattle.engine_semantics.specs.Graph.{Record}
 use Rattle.keys.specs.declared.key.Key.{Key}
 use Rattle.keys.specs.declared.value.Value.{Value}
-use Rattle.numbered.specs.Tables.{value_of, value_at}
-use Rattle.numbered.specs.Flats.{members_in}
-use Rattle.evaluation.specs.Value.{In}
+use Rattle.node_table.specs.Tables.{value_of, value_at}
+use Rattle.node_table.specs.Flats.{members_in}
+use Rattle.engine_semantics.specs.Value.{In}
 use Rattle.node.specs.declared.records.NodeRecord.{NodeRecord}
 
 -- the records, each with its key, in the order of the keys' numbers
 abbrev pub Records : Type 0
 Records = List (Key × NodeRecord)
 
--- the numbers of each key's users
+-- the numbers of each key's reverse dependencies
 abbrev pub UserLists : Type 0
 UserLists = Key → List ℕ
 
--- the users of each key
+-- the reverse dependencies of each key
 abbrev pub Users : Type 0
 Users = Key → List Key
 
 abbrev pub kept_at : Records → Key → Option NodeRecord
 kept_at records k = value_of records k
 
--- the numbers of the users that stand in a record
-abbrev pub listed : Option NodeRecord → List ℕ
-listed None = []
-listed (Some e) = e.users.items
+-- the numbers of the reverse dependencies that are in a record
+abbrev pub rdep_ids : Option NodeRecord → List ℕ
+rdep_ids None = []
+rdep_ids (Some e) = e.users.items
 
--- the numbers of the users of j
+-- the numbers of the reverse dependencies of j
 abbrev pub numbers_of : Records → Key → List ℕ
-numbers_of records j = listed (kept_at records j)
+numbers_of records j = rdep_ids (kept_at records j)
 
--- the same of the key with a number
+-- the same for the key with a number
 abbrev pub numbers_with : Records → ℕ → List ℕ
-numbers_with records n = listed (value_at records n)
+numbers_with records n = rdep_ids (value_at records n)
 
 abbrev pub users_at : Users → Key → List Key
 users_at users j = users j
 
--- the users by their numbers
+-- the reverse dependencies by their numbers
 abbrev pub users_in : Records → UserLists → Key → List Key
 users_in records lists j = members_in records (lists j)
 
--- the users that stand in the records
+-- the reverse dependencies that are in the records
 abbrev pub users_of : Records → Key → List Key
 users_of records j = members_in records (numbers_of records j)
 
--- the users are numbers of records
+-- the reverse dependencies are numbers of records
 abbrev pub AreNumbers : Records → UserLists → Type 0
 AreNumbers records lists = (j : Key) (n : ℕ) → In n (lists j) → n < length records
 
@@ -61,29 +61,29 @@ AreNumbers records lists = (j : Key) (n : ℕ) → In n (lists j) → n < length
 abbrev pub items_of : List (Vec Key Global) → List (List Key)
 items_of groups = map (λ g. g.items) groups
 
--- what is kept of a record but its users, with groups of numbers
+-- what is kept of a record but its reverse dependencies, with groups of numbers
 abbrev pub row_of : NodeRecord → Record ℕ Value
 row_of e = record { value = arc_value e.value; groups = e.groups; settled_at = e.settled_at; changed_at = e.changed_at; dirty = e.dirty }
 
 abbrev pub rows : Records → List (Key × Record ℕ Value)
 rows records = map (λ e. (e.0, row_of e.1)) records
 
--- the keys with these numbers, where the keys stand in the order of their numbers
-abbrev pub named : List Key → List ℕ → List Key
-named keys ns = flat_map (λ n. option_to_list (slice_get keys n)) ns
+-- the keys with these numbers, where the keys are in the order of their numbers
+abbrev pub keys_at : List Key → List ℕ → List Key
+keys_at keys ns = flat_map (λ n. option_to_list (slice_get keys n)) ns
 
 abbrev pub by_keys : List Key → Record ℕ Value → Record Key Value
-by_keys keys r = record { value = r.value; groups = map (named keys) r.groups; settled_at = r.settled_at; changed_at = r.changed_at; dirty = r.dirty }
+by_keys keys r = record { value = r.value; groups = map (keys_at keys) r.groups; settled_at = r.settled_at; changed_at = r.changed_at; dirty = r.dirty }
 
--- what a contract sees of a record: all but its users, with groups of keys
+-- what a contract sees of a record: all but its reverse dependencies, with groups of keys
 abbrev pub record_of : List Key → NodeRecord → Record Key Value
 record_of keys e = by_keys keys (row_of e)
 
 -- what a contract sees of the records
-abbrev pub shown : Records → List (Key × Record Key Value)
-shown records = map (λ e. (e.0, by_keys (keys_of records) e.1)) (rows records)
+abbrev pub entries_of : Records → List (Key × Record Key Value)
+entries_of records = map (λ e. (e.0, by_keys (keys_of records) e.1)) (rows records)
 
--- no more than users has changed
+-- no more than reverse dependencies has changed
 abbrev pub KeepsRecords : Records → Records → Type 0
 KeepsRecords old new = rows new ≡ rows old
 

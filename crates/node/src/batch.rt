@@ -1,29 +1,29 @@
 //! Records that are stored together, all or none.
 ghost use Rattle.std.specs.Prelude.{◌≡◌, ◌≢◌, length, IfOk, OnOk, OnErr};
-ghost use Rattle.numbered.specs.Tables.{AreDistinct};
-ghost use Rattle.evaluation.specs.Graph.{Record};
-ghost use Rattle.evaluation.specs.Value.{AllDiffer, In};
+ghost use Rattle.node_table.specs.Tables.{AreDistinct};
+ghost use Rattle.engine_semantics.specs.Graph.{Record};
+ghost use Rattle.engine_semantics.specs.Value.{AllDiffer, In};
 ghost use Rattle.keys.specs.declared.key.Key.{Key};
 ghost use Rattle.keys.specs.declared.value.Value.{Value};
 ghost use Rattle.std.specs.Arc.{arc_value};
 ghost use Rattle.std.specs.Map.{keys_of as keys_of_records};
 ghost use Rattle.node.specs.Records.{Records, numbers_of, users_of, AreNumbers, AsksNumbers, KeepsRecords};
-ghost use Rattle.node.specs.Writes.{stored};
+ghost use Rattle.node.specs.Writes.{settled_record};
 ghost use Rattle.node.specs.Edges.{HasUsers, SameUsers};
-ghost use Rattle.node.specs.Graphs.{IsLinkedBy, Sets, seen};
-ghost use Rattle.node.specs.Batches.{asked, keys_of, HasReadyEntries, SetsAll, HasPlacedSome, IsThere, HasPlacedAll, AreRecorded, HaveMembers, AreUsers, HasFewer, HasLinkedEntries, HasLinkedEach, HasCutAll, IsToWrite, HasWrittenAll, HasReadyFlat, flats_in};
+ghost use Rattle.node.specs.Graphs.{IsLinkedBy, Sets, records_of};
+ghost use Rattle.node.specs.Batches.{entry_groups, keys_of, HasReadyEntries, SetsAll, HasPlacedSome, IsThere, HasPlacedAll, AreRecorded, HaveMembers, AreUsers, HasFewer, HasLinkedEntries, HasLinkedEach, HasCutAll, IsToWrite, HasWrittenAll, HasReadyFlat, flats_in};
 ghost use Rattle.node.specs.declared.entry.Entry.{Entry};
 
-use crate::edges::{cut, cut_with, link_groups, members_with};
+use crate::edges::{drop_edges, drop_edges_to, link_groups, members_with};
 use crate::entry::Entry;
 use crate::records::Records;
 use crate::settling::{kept_members, place, write};
+use base_types::Memory;
 use keys::Key;
-use numbered::Flat;
+use node_table::FlatGroups;
 use std::alloc::Global;
-use texts::Memory;
 
-// Keeps a record without groups and users at the key of an entry that has none.
+// Places a record without groups and reverse dependencies at the key of an entry, if the key has none.
 fn place_entry(
     alloc: Global,
     records: &mut Records,
@@ -34,8 +34,10 @@ fn place_entry(
     requires asks { AsksNumbers records.old }
     ensures some { (original : Records) → HasPlacedSome original records.old
         → HasPlacedSome original records.new }
-    ensures there { OnOk result (IsThere (seen records.old) (seen records.new) entry.now version) }
-    ensures others { (k : Key) → entry.now.key ≢ k → seen records.new k ≡ seen records.old k }
+    ensures there { OnOk result (IsThere (records_of records.old) (records_of records.new) entry.now
+        version) }
+    ensures others { (k : Key) → entry.now.key ≢ k → records_of records.new k ≡ records_of
+        records.old k }
     ensures asks { AsksNumbers records.new }
     ensures lists { SameUsers (numbers_of records.old) (numbers_of records.new) }
     ensures ordered { AreDistinct records.new }
@@ -47,7 +49,7 @@ fn place_entry(
     Ok(())
 }
 
-// Keeps a record without groups and users at the key of each entry that has none.
+// Places a record without groups and reverse dependencies at the key of each entry, if the key has none.
 fn place_all(
     alloc: Global,
     records: &mut Records,
@@ -58,8 +60,8 @@ fn place_all(
     requires asks { AsksNumbers records.old }
     requires differ { AllDiffer (keys_of entries.now) }
     ensures some { HasPlacedSome records.old records.new }
-    ensures all { OnOk result (HasPlacedAll (seen records.old) (seen records.new) entries.now
-        version) }
+    ensures all { OnOk result (HasPlacedAll (records_of records.old) (records_of records.new)
+        entries.now version) }
     ensures asks { AsksNumbers records.new }
     ensures lists { SameUsers (numbers_of records.old) (numbers_of records.new) }
     ensures ordered { AreDistinct records.new }
@@ -70,7 +72,7 @@ fn place_all(
     Ok(())
 }
 
-// Removes the records after the first ones, of which there are so many.
+// Removes all records but the first ones, whose number is `first`.
 fn remove_all(records: &mut Records, first: usize)
     ensures { (original : Records) → HasPlacedSome original records.old → first ≡ length original
         → records.new ≡ original }
@@ -81,22 +83,22 @@ fn remove_all(records: &mut Records, first: usize)
 }
 
 // Returns the groups of each entry, by the numbers of their members.
-fn flats_of(alloc: Global, records: &Records, entries: &[Entry]) -> Result<Vec<Flat>, Memory>
-    requires { HaveMembers (seen records.now) entries.now }
+fn flats_of(alloc: Global, records: &Records, entries: &[Entry]) -> Result<Vec<FlatGroups>, Memory>
+    requires { HaveMembers (records_of records.now) entries.now }
     ensures { IfOk result (λ flats. flats.items ≡ flats_in records.now entries.now) }
 {
     let mut flats = Vec::with_capacity(alloc, entries.len())?;
     for entry in entries {
-        flats.push(Flat::of(alloc, records, entry.groups.as_slice())?)?;
+        flats.push(FlatGroups::of(alloc, records, entry.groups.as_slice())?)?;
     }
     Ok(flats)
 }
 
-// Makes each entry's key a user of the members of its groups.
+// Makes each entry's key a reverse dependency of the members of its groups.
 fn link_all(alloc: Global, records: &mut Records, entries: &[Entry]) -> Result<(), Memory>
-    requires there { AreRecorded (seen records.old) entries.now }
-    requires members { HaveMembers (seen records.old) entries.now }
-    requires users { AreUsers (seen records.old) (users_of records.old) entries.now }
+    requires there { AreRecorded (records_of records.old) entries.now }
+    requires members { HaveMembers (records_of records.old) entries.now }
+    requires users { AreUsers (records_of records.old) (users_of records.old) entries.now }
     requires numbers { AreNumbers records.old (numbers_of records.old) }
     requires asks { AsksNumbers records.old }
     ensures some { HasLinkedEntries (users_of records.old) (users_of records.new) entries.now }
@@ -105,37 +107,40 @@ fn link_all(alloc: Global, records: &mut Records, entries: &[Entry]) -> Result<(
     ensures same { KeepsRecords records.old records.new }
 {
     for entry in entries {
-        let user = records.number_of(&entry.key).unwrap();
+        let user = records.id_of(&entry.key).unwrap();
         let linked = members_with(alloc, records, kept_members(records, user))?;
         link_groups(records, entry.groups.as_slice(), &linked, user)?;
     }
     Ok(())
 }
 
-// Takes each entry's key out of the users of its groups' members, but not of those in the groups of its record.
+// Removes each entry's key from the reverse dependencies of its groups' members, but not of those in the groups of its
+// record.
 fn cut_all(records: &mut Records, entries: &[Entry])
-    requires there { AreRecorded (seen records.old) entries.now }
+    requires there { AreRecorded (records_of records.old) entries.now }
     requires asks { AsksNumbers records.old }
-    ensures cut { HasCutAll (seen records.old) (users_of records.old) (users_of records.new)
+    ensures cut { HasCutAll (records_of records.old) (users_of records.old) (users_of records.new)
         entries.now }
     ensures fewer { HasFewer (numbers_of records.old) (numbers_of records.new) }
     ensures same { KeepsRecords records.old records.new }
 {
     for entry in entries {
-        let user = records.number_of(&entry.key).unwrap();
-        cut(records, entry.groups.as_slice(), user);
+        let user = records.id_of(&entry.key).unwrap();
+        drop_edges(records, entry.groups.as_slice(), user);
     }
 }
 
-// Writes an entry into its key's record, and cuts the members that are in its groups no more.
-fn write_entry(records: &mut Records, entry: Entry, flat: Flat, version: u32)
+// Writes an entry into its key's record, and removes the edges to members that are no longer in its groups.
+fn write_entry(records: &mut Records, entry: Entry, flat: FlatGroups, version: u32)
     requires asks { AsksNumbers records.old }
     requires members { HasReadyFlat records.old entry flat }
-    requires ready { (w : Record Key Value) × IsToWrite (seen records.old) (users_of records.old)
-        entry w }
-    ensures sets { Sets (seen records.old) (seen records.new) entry.key
-        (stored (seen records.old entry.key) (arc_value entry.value) (asked entry) version) }
-    ensures users { HasUsers (users_of records.old) (users_of records.new) entry.key (asked entry) }
+    requires ready { (w : Record Key Value) × IsToWrite (records_of records.old) (users_of
+        records.old) entry w }
+    ensures sets { Sets (records_of records.old) (records_of records.new) entry.key
+        (settled_record (records_of records.old entry.key) (arc_value entry.value) (entry_groups
+        entry) version) }
+    ensures users { HasUsers (users_of records.old) (users_of records.new) entry.key (entry_groups
+        entry) }
     ensures fewer { HasFewer (numbers_of records.old) (numbers_of records.new) }
     ensures keys { keys_of_records records.new ≡ keys_of_records records.old }
     ensures asks { AsksNumbers records.new }
@@ -145,22 +150,27 @@ fn write_entry(records: &mut Records, entry: Entry, flat: Flat, version: u32)
         value,
         groups: _,
     } = entry;
-    let user = records.number_of(&key).unwrap();
+    let user = records.id_of(&key).unwrap();
     let old = write(records, user, value, flat, version);
-    cut_with(records, old.members(), user);
+    drop_edges_to(records, old.members(), user);
 }
 
 // Writes the entries into their keys' records.
-fn write_all(records: &mut Records, mut entries: Vec<Entry>, mut flats: Vec<Flat>, version: u32)
+fn write_all(
+    records: &mut Records,
+    mut entries: Vec<Entry>,
+    mut flats: Vec<FlatGroups>,
+    version: u32,
+)
     requires distinct { AreDistinct records.old }
     requires asks { AsksNumbers records.old }
-    requires members { HaveMembers (seen records.old) entries.items }
+    requires members { HaveMembers (records_of records.old) entries.items }
     requires flats { flats.items ≡ flats_in records.old entries.items }
     requires differ { AllDiffer (keys_of entries.items) }
     requires ready { (e : Entry) → In e entries.items → (w : Record Key Value)
-        × IsToWrite (seen records.old) (users_of records.old) e w }
-    ensures written { HasWrittenAll (seen records.old) (seen records.new) (users_of records.old)
-        (users_of records.new) entries.items version }
+        × IsToWrite (records_of records.old) (users_of records.old) e w }
+    ensures written { HasWrittenAll (records_of records.old) (records_of records.new) (users_of
+        records.old) (users_of records.new) entries.items version }
     ensures fewer { HasFewer (numbers_of records.old) (numbers_of records.new) }
     ensures keys { keys_of_records records.new ≡ keys_of_records records.old }
     ensures asks { AsksNumbers records.new }
@@ -182,8 +192,9 @@ pub fn store_all(
 ) -> Result<(), Memory>
     requires linked { IsLinkedBy records.old }
     requires differ { AllDiffer (keys_of entries.items) }
-    requires ready { HasReadyEntries (seen records.old) entries.items }
-    ensures ok { OnOk result (SetsAll (seen records.old) (seen records.new) entries.items version) }
+    requires ready { HasReadyEntries (records_of records.old) entries.items }
+    ensures ok { OnOk result (SetsAll (records_of records.old) (records_of records.new)
+        entries.items version) }
     ensures err { OnErr result (KeepsRecords records.old records.new) }
     ensures linked { IsLinkedBy records.new }
 {

@@ -9,11 +9,11 @@ use crate::records::Records;
 pub struct Counts {
     /// The records, dirty or not.
     pub records: u64,
-    /// The recorded edges: one for each member of the recorded groups. None where they are more than a `u64` can count.
+    /// The recorded edges: one for each member of the recorded groups. `None` if there are more than a `u64` can count.
     pub edges: Option<u64>,
 }
 
-/// Returns how many members the groups of all records have, or `None` if they are more than a `u64` can count.
+/// Returns how many members the groups of all records have, or `None` if there are more than a `u64` can count.
 pub fn edges(records: &Records) -> Option<u64>
     ensures some { IfSome result (λ n. n ≡ kept_edges records.now) }
     ensures none { IfNone result (u64.MAX < kept_edges records.now) }

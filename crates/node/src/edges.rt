@@ -1,22 +1,22 @@
-//! Reverse edges, from a key to those whose records have it in a group. They stand in the key's own record.
+//! Reverse edges, from a key to those whose records have it in a group. They are in the key's own record.
 ghost use Rattle.std.specs.Prelude.{◌≡◌, ◌<◌, All, [], ◌∷◌, ◌++◌, not, filter, length, OnOk, OnErr, IfOk, IfSome, IfNone, IsSome, IsTrue, Some, ◌↔◌, ◌==◌};
-ghost use Rattle.evaluation.specs.Value.{In, IsMember};
+ghost use Rattle.engine_semantics.specs.Value.{In, IsMember};
 ghost use Rattle.std.specs.List.{list_any};
-ghost use Rattle.numbered.specs.Tables.{AreDistinct, key_at};
-ghost use Rattle.numbered.specs.Flats.{members_in};
+ghost use Rattle.node_table.specs.Tables.{AreDistinct, key_at};
+ghost use Rattle.node_table.specs.Flats.{members_in};
 ghost use Rattle.keys.specs.Keys.{key_eq};
 ghost use Rattle.keys.specs.declared.key.Key.{Key};
 ghost use Rattle.node.specs.Records.{items_of, numbers_of, AsksNumbers, KeepsRecords};
 ghost use Rattle.node.specs.Writes.{groups_at};
-ghost use Rattle.node.specs.Graphs.{seen};
+ghost use Rattle.node.specs.Graphs.{records_of};
 ghost use Rattle.node.specs.Edges.{IsAdded, HasLinked, HasUnlinked, SameUsers, HasLinkedSome, HasLinkedAll, HasCut, AddsMembers, AreMembers, among};
 
 use crate::records::Records;
+use base_types::Memory;
 use keys::Key;
-use numbered::Number;
+use node_table::NodeId;
 use std::alloc::Global;
 use std::collections::BTreeSet;
-use texts::Memory;
 
 // Adds a key to a set.
 fn add(set: &mut BTreeSet<Key>, key: Key) -> Result<(), Memory>
@@ -27,8 +27,8 @@ fn add(set: &mut BTreeSet<Key>, key: Key) -> Result<(), Memory>
     Ok(())
 }
 
-// Adds a user to a list.
-fn add_user(list: &mut Vec<Number>, user: Number) -> Result<(), Memory>
+// Adds a reverse dependency to a list.
+fn add_rdep(list: &mut Vec<NodeId>, user: NodeId) -> Result<(), Memory>
     ensures ok { OnOk result (list.new.items ≡ list.old.items ++ user ∷ []) }
     ensures err { OnErr result (list.new.items ≡ list.old.items) }
 {
@@ -36,8 +36,8 @@ fn add_user(list: &mut Vec<Number>, user: Number) -> Result<(), Memory>
     Ok(())
 }
 
-// Takes a user out of a list, as often as it is there.
-fn remove_user(list: &mut Vec<Number>, user: Number)
+// Removes a reverse dependency from a list, as often as it is there.
+fn remove_rdep(list: &mut Vec<NodeId>, user: NodeId)
     ensures { list.new.items ≡ filter (λ n. not (n == user)) list.old.items }
 {
     list.retain(|n| n.place() != user.place());
@@ -50,39 +50,39 @@ fn has(set: &BTreeSet<Key>, key: &Key) -> bool
     set.contains(key)
 }
 
-// Makes the record with a number a user of the member, which has a record.
-fn link(records: &mut Records, member: &Key, user: Number) -> Result<(), Memory>
-    requires { IsSome (seen records.old member.now) }
+// Makes the record with a number a reverse dependency of the member, which has a record.
+fn link(records: &mut Records, member: &Key, user: NodeId) -> Result<(), Memory>
+    requires { IsSome (records_of records.old member.now) }
     ensures ok { OnOk result (HasLinked (numbers_of records.old) (numbers_of records.new) member.now
         user) }
     ensures err { OnErr result (SameUsers (numbers_of records.old) (numbers_of records.new)) }
     ensures same { KeepsRecords records.old records.new }
 {
     if let Some(kept) = records.get_mut(member) {
-        add_user(&mut kept.users, user)?;
+        add_rdep(&mut kept.users, user)?;
     }
     Ok(())
 }
 
-// Takes the record with a number out of the users of the member.
-fn unlink(records: &mut Records, member: &Key, user: Number)
+// Removes the record with a number from the reverse dependencies of the member.
+fn unlink(records: &mut Records, member: &Key, user: NodeId)
     ensures users { HasUnlinked (numbers_of records.old) (numbers_of records.new) member.now user }
     ensures same { KeepsRecords records.old records.new }
 {
     if let Some(kept) = records.get_mut(member) {
-        remove_user(&mut kept.users, user);
+        remove_rdep(&mut kept.users, user);
     }
 }
 
-// Makes the record with a number a user of each member of a group. It is one already of those in the set.
+// Makes the record with a number a reverse dependency of each member of a group. It already is one of those in the set.
 fn link_group(
     records: &mut Records,
     group: &[Key],
     linked: &BTreeSet<Key>,
-    user: Number,
+    user: NodeId,
 ) -> Result<(), Memory>
     requires linked { (j : Key) → In j linked.now.keys → In user (numbers_of records.old j) }
-    requires members { (j : Key) → In j group.now → IsSome (seen records.old j) }
+    requires members { (j : Key) → In j group.now → IsSome (records_of records.old j) }
     ensures some { HasLinkedSome (numbers_of records.old) (numbers_of records.new) user
         (λ j. In j group.now) }
     ensures all { OnOk result (HasLinkedAll (numbers_of records.new) user (λ j. In j group.now)) }
@@ -96,15 +96,17 @@ fn link_group(
     Ok(())
 }
 
-/// Makes the record with a number a user of each member of the groups. It is one already of those in the set.
+/// Makes the record with a number a reverse dependency of each member of the groups. It already is one of those in the
+/// set.
 pub fn link_groups(
     records: &mut Records,
     groups: &[Vec<Key>],
     linked: &BTreeSet<Key>,
-    user: Number,
+    user: NodeId,
 ) -> Result<(), Memory>
     requires linked { (j : Key) → In j linked.now.keys → In user (numbers_of records.old j) }
-    requires members { (j : Key) → IsMember j (items_of groups.now) → IsSome (seen records.old j) }
+    requires members { (j : Key) → IsMember j (items_of groups.now) → IsSome (records_of records.old
+        j) }
     ensures some { HasLinkedSome (numbers_of records.old) (numbers_of records.new) user
         (λ j. IsMember j (items_of groups.now)) }
     ensures all { OnOk result
@@ -117,8 +119,8 @@ pub fn link_groups(
     Ok(())
 }
 
-// Makes the record with a number a user of the member with a number.
-fn link_at(records: &mut Records, member: Number, user: Number) -> Result<(), Memory>
+// Makes the record with a number a reverse dependency of the member with a number.
+fn link_at(records: &mut Records, member: NodeId, user: NodeId) -> Result<(), Memory>
     requires within { member < length records.old }
     requires distinct { AreDistinct records.old }
     ensures ok { (k : Key) → key_at records.old member ≡ Some k → OnOk result
@@ -127,16 +129,16 @@ fn link_at(records: &mut Records, member: Number, user: Number) -> Result<(), Me
         (SameUsers (numbers_of records.old) (numbers_of records.new)) }
     ensures same { KeepsRecords records.old records.new }
 {
-    add_user(&mut records.value_mut(member).users, user)?;
+    add_rdep(&mut records.value_mut(member).users, user)?;
     Ok(())
 }
 
-/// Makes the record with a number a user of each of these members. It is one already of those in the set.
+/// Makes the record with a number a reverse dependency of each of these members. It already is one of those in the set.
 pub fn link_members(
     records: &mut Records,
-    members: &[Number],
+    members: &[NodeId],
     linked: &BTreeSet<Key>,
-    user: Number,
+    user: NodeId,
 ) -> Result<(), Memory>
     requires numbers { All (λ n. n < length records.old) members.now }
     requires distinct { AreDistinct records.old }
@@ -156,7 +158,7 @@ pub fn link_members(
 }
 
 // Returns whether the member is the key of one of these numbers.
-fn is_named(records: &Records, numbers: &[Number], member: &Key) -> bool
+fn is_named(records: &Records, numbers: &[NodeId], member: &Key) -> bool
     requires { All (λ n. n < length records.now) numbers.now }
     ensures { result ≡ list_any (λ k. key_eq k member.now) (members_in records.now numbers.now) }
 {
@@ -169,24 +171,25 @@ fn is_named(records: &Records, numbers: &[Number], member: &Key) -> bool
 }
 
 // Returns whether the record with a number has the member in a group.
-fn asks(records: &Records, user: Number, member: &Key) -> bool
+fn asks(records: &Records, user: NodeId, member: &Key) -> bool
     requires within { user < length records.now }
     requires distinct { AreDistinct records.now }
     requires members { AsksNumbers records.now }
     ensures { (k : Key) → key_at records.now user ≡ Some k
-        → result ≡ among (groups_at (seen records.now k)) member.now }
+        → result ≡ among (groups_at (records_of records.now k)) member.now }
 {
     is_named(records, records.value_at(user).groups.members(), member)
 }
 
-// Takes the record with a number out of the users of a group's members, but not of those that it has in a group itself.
-fn cut_group(records: &mut Records, group: &[Key], user: Number)
+// Removes the record with a number from the reverse dependencies of a group's members, but not of those that it has in
+// a group itself.
+fn cut_group(records: &mut Records, group: &[Key], user: NodeId)
     requires within { user < length records.old }
     requires distinct { AreDistinct records.old }
     requires members { AsksNumbers records.old }
     ensures cut { (k : Key) → key_at records.old user ≡ Some k → HasCut (numbers_of records.old)
         (numbers_of records.new) user (λ j. In j group.now)
-        (λ j. IsMember j (groups_at (seen records.old k))) }
+        (λ j. IsMember j (groups_at (records_of records.old k))) }
     ensures same { KeepsRecords records.old records.new }
 {
     for member in group {
@@ -196,15 +199,15 @@ fn cut_group(records: &mut Records, group: &[Key], user: Number)
     }
 }
 
-/// Takes the record with a number out of the users of the groups' members, but not of those that it has in a group
-/// itself.
-pub fn cut(records: &mut Records, groups: &[Vec<Key>], user: Number)
+/// Removes the record with a number from the reverse dependencies of the groups' members, but not of those that it has
+/// in a group itself.
+pub fn drop_edges(records: &mut Records, groups: &[Vec<Key>], user: NodeId)
     requires within { user < length records.old }
     requires distinct { AreDistinct records.old }
     requires members { AsksNumbers records.old }
     ensures cut { (k : Key) → key_at records.old user ≡ Some k → HasCut (numbers_of records.old)
         (numbers_of records.new) user (λ j. IsMember j (items_of groups.now))
-        (λ j. IsMember j (groups_at (seen records.old k))) }
+        (λ j. IsMember j (groups_at (records_of records.old k))) }
     ensures same { KeepsRecords records.old records.new }
 {
     for group in groups {
@@ -237,7 +240,7 @@ pub fn members_of(alloc: Global, groups: &[Vec<Key>]) -> Result<BTreeSet<Key>, M
 pub fn members_with(
     alloc: Global,
     records: &Records,
-    numbers: &[Number],
+    numbers: &[NodeId],
 ) -> Result<BTreeSet<Key>, Memory>
     requires { All (λ n. n < length records.now) numbers.now }
     ensures { IfOk result
@@ -253,7 +256,7 @@ pub fn members_with(
 /// Returns the members of the new groups, if there are old members.
 pub fn members_beside(
     alloc: Global,
-    old: &[Number],
+    old: &[NodeId],
     new: &[Vec<Key>],
 ) -> Result<Option<BTreeSet<Key>>, Memory>
     ensures some { IfOk result
@@ -266,26 +269,27 @@ pub fn members_beside(
     Ok(Some(members_of(alloc, new)?))
 }
 
-// Takes the record with a number out of the users of the member with a number.
-fn unlink_at(records: &mut Records, member: Number, user: Number)
+// Removes the record with a number from the reverse dependencies of the member with a number.
+fn unlink_at(records: &mut Records, member: NodeId, user: NodeId)
     requires within { member < length records.old }
     requires distinct { AreDistinct records.old }
     ensures users { (k : Key) → key_at records.old member ≡ Some k
         → HasUnlinked (numbers_of records.old) (numbers_of records.new) k user }
     ensures same { KeepsRecords records.old records.new }
 {
-    remove_user(&mut records.value_mut(member).users, user);
+    remove_rdep(&mut records.value_mut(member).users, user);
 }
 
-/// Takes the record with a number out of the users of these members, but not of those that it has in a group itself.
-pub fn cut_with(records: &mut Records, members: &[Number], user: Number)
+/// Removes the record with a number from the reverse dependencies of these members, but not of those that it has in a
+/// group itself.
+pub fn drop_edges_to(records: &mut Records, members: &[NodeId], user: NodeId)
     requires within { user < length records.old }
     requires numbers { All (λ n. n < length records.old) members.now }
     requires distinct { AreDistinct records.old }
     requires members { AsksNumbers records.old }
     ensures cut { (k : Key) → key_at records.old user ≡ Some k → HasCut (numbers_of records.old)
         (numbers_of records.new) user (λ j. In j (members_in records.old members.now))
-        (λ j. IsMember j (groups_at (seen records.old k))) }
+        (λ j. IsMember j (groups_at (records_of records.old k))) }
     ensures same { KeepsRecords records.old records.new }
 {
     for member in members {
@@ -295,8 +299,8 @@ pub fn cut_with(records: &mut Records, members: &[Number], user: Number)
     }
 }
 
-// Takes the record with a number out of the users of these members, but not of those in the set.
-fn cut_others(records: &mut Records, members: &[Number], keep: &BTreeSet<Key>, user: Number)
+// Removes the record with a number from the reverse dependencies of these members, but not of those in the set.
+fn cut_others(records: &mut Records, members: &[NodeId], keep: &BTreeSet<Key>, user: NodeId)
     requires numbers { All (λ n. n < length records.old) members.now }
     requires distinct { AreDistinct records.old }
     ensures cut { HasCut (numbers_of records.old) (numbers_of records.new) user
@@ -310,13 +314,13 @@ fn cut_others(records: &mut Records, members: &[Number], keep: &BTreeSet<Key>, u
     }
 }
 
-/// Takes the record with a number out of the users of these members, but not of those in the set. Without a set nothing
-/// is cut.
-pub fn cut_beside(
+/// Removes the record with a number from the reverse dependencies of these members, but not of those in the set.
+/// Without a set nothing is removed.
+pub fn drop_edges_except(
     records: &mut Records,
-    members: &[Number],
+    members: &[NodeId],
     keep: Option<BTreeSet<Key>>,
-    user: Number,
+    user: NodeId,
 )
     requires numbers { All (λ n. n < length records.old) members.now }
     requires distinct { AreDistinct records.old }

@@ -5,10 +5,10 @@ use std::sync::Arc;
 /// What is to be recorded of a node that was settled.
 #[derive(Drop)]
 pub struct Entry {
-    /// Whose record it is.
+    /// The key whose record it is.
     pub key: Key,
     /// Its value.
     pub value: Arc<Value>,
-    /// The groups that it asked.
+    /// The groups that it asked for.
     pub groups: Vec<Vec<Key>>,
 }

@@ -1,24 +1,24 @@
-//! The groups of a record, lent.
+//! The groups of a record, borrowed.
 ghost use Rattle.std.specs.Prelude.{◌≡◌, ◌<◌, All, Some, length, slice_get};
-ghost use Rattle.numbered.specs.Flats.{groups_in, members_in};
+ghost use Rattle.node_table.specs.Flats.{groups_in, members_in};
 
 use crate::records::Records;
 use keys::Key;
-use numbered::{Flat, Number};
+use node_table::{FlatGroups, NodeId};
 use std::marker::Model;
 
-/// The groups that a record keeps, in the order in which they were asked. They are lent: a member is read through the
+/// The groups of a record, in the order in which they were asked for. They are borrowed: a member is read through the
 /// number of its record. A contract sees the groups.
 #[derive(Drop)]
 pub struct Groups<'a> {
     records: &'a Records,
-    groups: &'a Flat,
+    groups: &'a FlatGroups,
 }
 
 impl<'a> Model for Groups<'a> {
     ghost use Rattle.std.specs.Prelude.{◌<◌, List, All, length};
     ghost use Rattle.keys.specs.declared.key.Key.{Key};
-    ghost use Rattle.numbered.specs.Flats.{groups_in};
+    ghost use Rattle.node_table.specs.Flats.{groups_in};
 
     ghost Value = { List (List Key) };
 
@@ -28,8 +28,8 @@ impl<'a> Model for Groups<'a> {
 }
 
 impl<'a> Groups<'a> {
-    // Lends groups of numbers of these records.
-    pub(crate) fn new(records: &'a Records, groups: &'a Flat) -> Groups<'a>
+    // Makes the groups from groups of numbers of these records.
+    pub(crate) fn new(records: &'a Records, groups: &'a FlatGroups) -> Groups<'a>
         requires { All (All (λ n. n < length records.now)) groups.now }
         ensures { result ≡ groups_in records.now groups.now }
     {
@@ -55,17 +55,17 @@ impl<'a> Groups<'a> {
     }
 }
 
-/// The members of a group that a record keeps, in their order, lent as `Groups` are. A contract sees the members.
+/// The members of a group of a record, in their order, borrowed as `Groups` are. A contract sees the members.
 #[derive(Drop)]
 pub struct Group<'a> {
     records: &'a Records,
-    members: &'a [Number],
+    members: &'a [NodeId],
 }
 
 impl<'a> Model for Group<'a> {
     ghost use Rattle.std.specs.Prelude.{◌<◌, List, All, length};
     ghost use Rattle.keys.specs.declared.key.Key.{Key};
-    ghost use Rattle.numbered.specs.Flats.{members_in};
+    ghost use Rattle.node_table.specs.Flats.{members_in};
 
     ghost Value = { List Key };
 

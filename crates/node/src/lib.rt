@@ -1,5 +1,4 @@
-//! The graph of what was recorded of nodes. Layer: engine, on base and files. Begin at `graph.rt` and
-//! `specs/Graphs.antt`.
+//! The graph of what was recorded of nodes. Begin at `graph.rt` and `specs/Graphs.antt`.
 #![tactic(auto)]
 
 mod batch;

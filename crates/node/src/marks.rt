@@ -1,9 +1,9 @@
-//! Dirty marks: the leaves that edits touch, and how marks spread from them along reverse edges.
+//! Dirty flags: the leaves that edits touch, and how records are marked dirty from them along reverse edges.
 ghost use Rattle.std.specs.Prelude.{◌≡◌, ◌+◌, ◌<◌, ◌≤◌, [], Some, None, true, false, All, IfOk, OnOk, OnErr, length, vec_len, map, reverse};
 ghost use Rattle.std.specs.Map.{keys_of};
 ghost use Rattle.labels.specs.Labels.{ancestors};
-ghost use Rattle.numbered.specs.Tables.{AreDistinct, Writes, key_at};
-ghost use Rattle.numbered.specs.Flats.{members_in};
+ghost use Rattle.node_table.specs.Tables.{AreDistinct, Writes, key_at};
+ghost use Rattle.node_table.specs.Flats.{members_in};
 ghost use Rattle.keys.specs.declared.key.Key.{Key};
 ghost use Rattle.keys.specs.EditLeaves.{leaves_of, touched_leaves};
 ghost use Rattle.keys.specs.declared.key.Key.TheVariants as kind;
@@ -13,12 +13,12 @@ ghost use Rattle.node.specs.declared.records.NodeRecord.{NodeRecord};
 ghost use Rattle.node.specs.Graphs.{paths_seen};
 
 use crate::records::Records;
+use base_types::{Memory, Text};
 use keys::Key;
-use numbered::Number;
+use node_table::NodeId;
 use std::alloc::Global;
-use texts::{Memory, Text};
 
-// Returns the listings of the directories that the path lies below, but the root, the longest name first.
+// Returns the listings of the directories that the path lies below, except the root, the longest name first.
 fn listings_above(alloc: Global, path: &str) -> Result<Vec<Key>, Memory>
     ensures { IfOk result (λ ks. reverse ks.items ≡ map kind.Listing (ancestors path.now)) }
 {
@@ -43,7 +43,7 @@ fn touched_by(alloc: Global, path: &str) -> Result<Vec<Key>, Memory>
 }
 
 /// Returns the leaves that edits of these paths touch.
-pub fn touched(alloc: Global, paths: &[&str]) -> Result<Vec<Key>, Memory>
+pub fn touched_leaves(alloc: Global, paths: &[&str]) -> Result<Vec<Key>, Memory>
     ensures { IfOk result (λ ks. ks.items ≡ touched_leaves (paths_seen paths.now)) }
 {
     let mut all = Vec::new(alloc);
@@ -53,8 +53,8 @@ pub fn touched(alloc: Global, paths: &[&str]) -> Result<Vec<Key>, Memory>
     Ok(all)
 }
 
-// Sets or takes away the mark of the record with a number.
-fn set_at(records: &mut Records, number: Number, dirty: bool)
+// Sets or clears the dirty flag of the record with a number.
+fn set_at(records: &mut Records, number: NodeId, dirty: bool)
     requires within { number < length records.old }
     requires distinct { AreDistinct records.old }
     ensures updates { (k : Key) (e : NodeRecord) → key_at records.old number ≡ Some k
@@ -68,8 +68,8 @@ fn set_at(records: &mut Records, number: Number, dirty: bool)
     records.value_mut(number).dirty = dirty;
 }
 
-// Sets or takes away the mark of a key's record, if it has one.
-fn set(records: &mut Records, key: &Key, dirty: bool)
+// Sets or clears the dirty flag of a key's record, if it has one.
+fn set_dirty(records: &mut Records, key: &Key, dirty: bool)
     ensures updates { (e : NodeRecord) → kept_at records.old key.now ≡ Some e
         → Writes records.old records.new key.now (record e { dirty = dirty }) }
     ensures absent { kept_at records.old key.now ≡ None → records.new ≡ records.old }
@@ -80,8 +80,12 @@ fn set(records: &mut Records, key: &Key, dirty: bool)
     }
 }
 
-// Marks the record with a number if it is not dirty, and lists the number.
-fn reach(records: &mut Records, marked: &mut Vec<Number>, number: Number) -> Result<(), Memory>
+// Marks the record with a number dirty if it is not, and lists the number.
+fn dirty_if_clean(
+    records: &mut Records,
+    marked: &mut Vec<NodeId>,
+    number: NodeId,
+) -> Result<(), Memory>
     requires within { number < length records.old }
     requires distinct { AreDistinct records.old }
     ensures ok { OnOk result ((k : Key) → key_at records.old number ≡ Some k
@@ -101,8 +105,8 @@ fn reach(records: &mut Records, marked: &mut Vec<Number>, number: Number) -> Res
     Ok(())
 }
 
-// Marks a leaf's record if it has one, and lists its number.
-fn reach_leaf(records: &mut Records, marked: &mut Vec<Number>, leaf: &Key) -> Result<(), Memory>
+// Marks a leaf's record dirty if it has one that is not, and lists its number.
+fn dirty_leaf(records: &mut Records, marked: &mut Vec<NodeId>, leaf: &Key) -> Result<(), Memory>
     ensures ok { OnOk result
         (HasReached records.old records.new (members_in records.old marked.old.items)
         (members_in records.new marked.new.items) leaf.now) }
@@ -110,17 +114,17 @@ fn reach_leaf(records: &mut Records, marked: &mut Vec<Number>, leaf: &Key) -> Re
         ((records.new ≡ records.old) × (marked.new.items ≡ marked.old.items)) }
     ensures lists { Lists records.old marked.old.items marked.new.items }
 {
-    let Some(number) = records.number_of(leaf) else {
+    let Some(number) = records.id_of(leaf) else {
         return Ok(());
     };
-    reach(records, marked, number)?;
+    dirty_if_clean(records, marked, number)?;
     Ok(())
 }
 
-// Marks the records of the leaves, and lists their numbers.
-fn reach_leaves(
+// Marks the records of the leaves dirty, and lists their numbers.
+fn dirty_leaves(
     records: &mut Records,
-    marked: &mut Vec<Number>,
+    marked: &mut Vec<NodeId>,
     leaves: &[Key],
 ) -> Result<(), Memory>
     ensures some { HasReachedSome records.old records.new (members_in records.old marked.old.items)
@@ -129,24 +133,24 @@ fn reach_leaves(
     ensures lists { Lists records.old marked.old.items marked.new.items }
 {
     for leaf in leaves {
-        reach_leaf(records, marked, leaf)?;
+        dirty_leaf(records, marked, leaf)?;
     }
     Ok(())
 }
 
-// Returns the users of the key with a number.
-fn users_with(records: &Records, number: Number) -> &[Number]
+// Returns the reverse dependencies of the key with a number.
+fn rdeps_with(records: &Records, number: NodeId) -> &[NodeId]
     requires { number < length records.now }
     ensures { result.now ≡ numbers_with records.now number }
 {
     records.value_at(number).users.as_slice()
 }
 
-// Marks the records of the users of the key with a number, and lists their numbers.
-fn reach_users(
+// Marks the reverse dependencies of the key with a number dirty, and lists their numbers.
+fn dirty_rdeps(
     records: &mut Records,
-    marked: &mut Vec<Number>,
-    number: Number,
+    marked: &mut Vec<NodeId>,
+    number: NodeId,
 ) -> Result<(), Memory>
     requires within { number < length records.old }
     requires users { All (λ n. n < length records.old) (numbers_with records.old number) }
@@ -160,16 +164,16 @@ fn reach_users(
         + vec_len marked.old }
     ensures lists { Lists records.old marked.old.items marked.new.items }
 {
-    let count = users_with(records, number).len();
+    let count = rdeps_with(records, number).len();
     for at in 0..count {
-        let user = users_with(records, number)[at];
-        reach(records, marked, user)?;
+        let user = rdeps_with(records, number)[at];
+        dirty_if_clean(records, marked, user)?;
     }
     Ok(())
 }
 
-// Marks the records that are reached from the listed ones, and lists their numbers too.
-fn spread(records: &mut Records, marked: &mut Vec<Number>) -> Result<(), Memory>
+// Marks the records that are reached from the listed ones dirty, and lists their numbers too.
+fn dirty_transitively(records: &mut Records, marked: &mut Vec<NodeId>) -> Result<(), Memory>
     requires within { All (λ n. n < length records.old) marked.old.items }
     requires distinct { AreDistinct records.old }
     requires numbers { AreNumbers records.old (numbers_of records.old) }
@@ -182,24 +186,24 @@ fn spread(records: &mut Records, marked: &mut Vec<Number>) -> Result<(), Memory>
     let mut at = 0;
     while at < marked.len() {
         let number = marked[at];
-        reach_users(records, marked, number)?;
+        dirty_rdeps(records, marked, number)?;
         at += 1;
     }
     Ok(())
 }
 
-/// Sets or takes away the marks of these keys' records.
-pub fn set_all(records: &mut Records, keys: &[Key], dirty: bool)
+/// Sets or clears the dirty flags of these keys' records.
+pub fn set_all_dirty(records: &mut Records, keys: &[Key], dirty: bool)
     ensures sets { SetsMarks dirty records.old records.new keys.now }
     ensures keys { keys_of records.new ≡ keys_of records.old }
 {
     for key in keys {
-        set(records, key, dirty);
+        set_dirty(records, key, dirty);
     }
 }
 
-/// Takes away the marks of the records with these numbers.
-pub fn unmark_all(records: &mut Records, numbers: &[Number])
+/// Clears the dirty flags of the records with these numbers.
+pub fn clear_all_dirty(records: &mut Records, numbers: &[NodeId])
     requires within { All (λ n. n < length records.old) numbers.now }
     requires distinct { AreDistinct records.old }
     ensures sets { SetsMarks false records.old records.new (members_in records.old numbers.now) }
@@ -211,7 +215,7 @@ pub fn unmark_all(records: &mut Records, numbers: &[Number])
 }
 
 /// Returns the keys with these numbers.
-pub fn keys_with(alloc: Global, records: &Records, numbers: &[Number]) -> Result<Vec<Key>, Memory>
+pub fn keys_with(alloc: Global, records: &Records, numbers: &[NodeId]) -> Result<Vec<Key>, Memory>
     requires { All (λ n. n < length records.now) numbers.now }
     ensures { IfOk result (λ keys. keys.items ≡ members_in records.now numbers.now) }
 {
@@ -222,10 +226,10 @@ pub fn keys_with(alloc: Global, records: &Records, numbers: &[Number]) -> Result
     Ok(keys)
 }
 
-/// Marks the records that are reached from the leaves and not dirty yet, and lists their numbers.
-pub fn mark_from(
+/// Marks the records dirty that are reached from the leaves and not dirty yet, and lists their numbers.
+pub fn mark_dirty_from(
     records: &mut Records,
-    marked: &mut Vec<Number>,
+    marked: &mut Vec<NodeId>,
     leaves: &[Key],
 ) -> Result<(), Memory>
     requires none { marked.old.items ≡ [] }
@@ -239,7 +243,7 @@ pub fn mark_from(
         (members_in records.new marked.new.items)) }
     ensures begun { OnOk result (HasReachedAll records.new leaves.now) }
 {
-    reach_leaves(records, marked, leaves)?;
-    spread(records, marked)?;
+    dirty_leaves(records, marked, leaves)?;
+    dirty_transitively(records, marked)?;
     Ok(())
 }

@@ -1,18 +1,18 @@
 //! What a graph keeps.
 use keys::{Key, Value};
-use numbered::{Flat, Number, Table};
+use node_table::{FlatGroups, NodeId, Table};
 use std::sync::Arc;
 
-/// What is kept of a node that was settled. A contract sees all but the users, and the members of
-/// the groups by their keys.
+/// What is kept of a node that was settled. A contract sees all but the reverse dependencies, and the members of the
+/// groups by their keys.
 #[derive(Drop)]
 pub struct NodeRecord {
     /// Its value.
     pub value: Arc<Value>,
-    /// The groups that it asked, by the numbers of their members' records.
-    pub groups: Flat,
+    /// The groups that it asked for, by the numbers of their members' records.
+    pub groups: FlatGroups,
     /// The numbers of the records that have its key in a group.
-    pub users: Vec<Number>,
+    pub users: Vec<NodeId>,
     /// The version at which it was last settled.
     pub settled_at: u32,
     /// The version at which its value last changed.

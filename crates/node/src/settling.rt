@@ -2,26 +2,26 @@
 ghost use Rattle.std.specs.Prelude.{◌≡◌, ◌<◌, Some, None, false, length, OnOk, OnErr, IsSome, if◌then◌else◌};
 ghost use Rattle.std.specs.Arc.{arc_value};
 ghost use Rattle.std.specs.Map.{keys_of};
-ghost use Rattle.evaluation.specs.Value.{IsMember};
-ghost use Rattle.numbered.specs.Tables.{AreDistinct, Writes, key_at};
+ghost use Rattle.engine_semantics.specs.Value.{IsMember};
+ghost use Rattle.node_table.specs.Tables.{AreDistinct, Writes, key_at};
 ghost use Rattle.keys.specs.Values.{value_eq};
 ghost use Rattle.keys.specs.declared.key.Key.{Key};
 ghost use Rattle.node.specs.Records.{kept_at, items_of, numbers_of, users_of, AreNumbers, AsksNumbers, KeepsRecords, asked_of};
-ghost use Rattle.node.specs.Writes.{written, stored, HasPlaced, HasReadyMembers, SameSets};
+ghost use Rattle.node.specs.Writes.{record_after_write, settled_record, HasPlaced, HasReadyMembers, SameSets};
 ghost use Rattle.node.specs.Edges.{HasUsers};
-ghost use Rattle.node.specs.Graphs.{IsLinkedBy, Sets, seen};
+ghost use Rattle.node.specs.Graphs.{IsLinkedBy, Sets, records_of};
 ghost use Rattle.node.specs.declared.records.NodeRecord.{NodeRecord};
 
-use crate::edges::{cut_beside, cut_with, link_members, members_beside, members_with};
+use crate::edges::{drop_edges_except, drop_edges_to, link_members, members_beside, members_with};
 use crate::records::{NodeRecord, Records};
+use base_types::Memory;
 use keys::{Key, Value};
-use numbered::{Flat, Number};
+use node_table::{FlatGroups, NodeId};
 use std::alloc::Global;
 use std::mem;
 use std::sync::Arc;
-use texts::Memory;
 
-/// Writes a version into a record, and takes its mark away.
+/// Writes a version into a record, and clears its dirty flag.
 pub fn settle(records: &mut Records, key: &Key, version: u32)
     ensures updates { (e : NodeRecord) → kept_at records.old key.now ≡ Some e
         → Writes records.old records.new key.now
@@ -33,7 +33,7 @@ pub fn settle(records: &mut Records, key: &Key, version: u32)
     }
 }
 
-// Returns when a record's value last changed, once it holds this value. A value that changed at the version is not
+// Returns when a record's value last changed, if it gets this value now. A value that changed at the version is not
 // compared.
 fn changed_at(kept: &NodeRecord, value: &Value, version: u32) -> u32
     ensures { result ≡ (if value_eq (arc_value kept.now.value) value.now then kept.now.changed_at
@@ -46,19 +46,20 @@ fn changed_at(kept: &NodeRecord, value: &Value, version: u32) -> u32
     }
 }
 
-/// Writes a value and groups into the record with a number, which is settled at the version, and returns the old groups.
+/// Writes a value and groups into the record with a number, which is settled at the version, and returns the old
+/// groups.
 pub fn write(
     records: &mut Records,
-    number: Number,
+    number: NodeId,
     value: Arc<Value>,
-    groups: Flat,
+    groups: FlatGroups,
     version: u32,
-) -> Flat
+) -> FlatGroups
     requires within { number < length records.old }
     requires distinct { AreDistinct records.old }
     ensures updates { (k : Key) (e : NodeRecord) → key_at records.old number ≡ Some k
         → kept_at records.old k ≡ Some e
-        → Writes records.old records.new k (written e value groups version) }
+        → Writes records.old records.new k (record_after_write e value groups version) }
     ensures groups { (k : Key) (e : NodeRecord) → key_at records.old number ≡ Some k
         → kept_at records.old k ≡ Some e → result ≡ e.groups }
 {
@@ -71,7 +72,7 @@ pub fn write(
 }
 
 /// Returns the members of the groups of the record with a number.
-pub fn kept_members(records: &Records, number: Number) -> &[Number]
+pub fn kept_members(records: &Records, number: NodeId) -> &[NodeId]
     requires within { number < length records.now }
     requires distinct { AreDistinct records.now }
     ensures { (k : Key) → key_at records.now number ≡ Some k
@@ -80,7 +81,7 @@ pub fn kept_members(records: &Records, number: Number) -> &[Number]
     records.value_at(number).groups.members()
 }
 
-/// Keeps a record without groups and users at a key that has none.
+/// Places a record without groups and reverse dependencies at a key that has none.
 pub fn place(
     alloc: Global,
     records: &mut Records,
@@ -97,7 +98,7 @@ pub fn place(
 {
     let kept = NodeRecord {
         value: Arc::try_clone(value)?,
-        groups: Flat::new(alloc),
+        groups: FlatGroups::new(alloc),
         users: Vec::new(alloc),
         settled_at: version,
         changed_at: version,
@@ -108,7 +109,7 @@ pub fn place(
 }
 
 /// Writes a value and groups into the record of a key that has one, and the reverse edges with it. Returns `Memory` if
-/// an allocation fails. No record has then changed, and each key has the users that it had.
+/// an allocation fails. Then no record has changed, and each key has the reverse dependencies that it had.
 pub fn rewrite(
     alloc: Global,
     records: &mut Records,
@@ -117,12 +118,13 @@ pub fn rewrite(
     groups: Vec<Vec<Key>>,
     version: u32,
 ) -> Result<(), Memory>
-    requires recorded { IsSome (seen records.old key.now) }
+    requires recorded { IsSome (records_of records.old key.now) }
     requires linked { IsLinkedBy records.old }
     requires members { (j : Key) → IsMember j (items_of groups.items)
-        → IsSome (seen records.old j) }
-    ensures ok { OnOk result (Sets (seen records.old) (seen records.new) key.now
-        (stored (seen records.old key.now) (arc_value value) (items_of groups.items) version)) }
+        → IsSome (records_of records.old j) }
+    ensures ok { OnOk result (Sets (records_of records.old) (records_of records.new) key.now
+        (settled_record (records_of records.old key.now) (arc_value value) (items_of groups.items)
+        version)) }
     ensures users { OnOk result (HasUsers (users_of records.old) (users_of records.new) key.now
         (items_of groups.items)) }
     ensures err { OnErr result (KeepsRecords records.old records.new
@@ -131,16 +133,16 @@ pub fn rewrite(
     ensures numbers { AreNumbers records.new (numbers_of records.new) }
     ensures asks { AsksNumbers records.new }
 {
-    let user = records.number_of(key).unwrap();
+    let user = records.id_of(key).unwrap();
     let keep = members_beside(alloc, kept_members(records, user), groups.as_slice())?;
     let linked = members_with(alloc, records, kept_members(records, user))?;
-    let flat = Flat::of(alloc, records, groups.as_slice())?;
+    let flat = FlatGroups::of(alloc, records, groups.as_slice())?;
     if let Err(error) = link_members(records, flat.members(), &linked, user) {
-        cut_with(records, flat.members(), user);
+        drop_edges_to(records, flat.members(), user);
         return Err(error);
     }
     let old = write(records, user, value, flat, version);
-    cut_beside(records, old.members(), keep, user);
+    drop_edges_except(records, old.members(), keep, user);
     Ok(())
 }
 
@@ -155,9 +157,10 @@ pub fn store(
     version: u32,
 ) -> Result<(), Memory>
     requires linked { IsLinkedBy records.old }
-    requires ready { HasReadyMembers (seen records.old) key.now (items_of groups.items) }
-    ensures ok { OnOk result (Sets (seen records.old) (seen records.new) key.now
-        (stored (seen records.old key.now) (arc_value value) (items_of groups.items) version)) }
+    requires ready { HasReadyMembers (records_of records.old) key.now (items_of groups.items) }
+    ensures ok { OnOk result (Sets (records_of records.old) (records_of records.new) key.now
+        (settled_record (records_of records.old key.now) (arc_value value) (items_of groups.items)
+        version)) }
     ensures err { OnErr result (KeepsRecords records.old records.new) }
     ensures linked { IsLinkedBy records.new }
 {

@@ -16,7 +16,7 @@ use Rattle.pattern.proofs.NameOrder.{sorted_same, in_sorted, sorted_in}
 use Rattle.pattern.proofs.Paths.{rest_in, rest_path}
 use Rattle.pattern.proofs.WalkFinds.{files_of, directories_of, files_to, files_from, directories_to, directories_from}
 
--- ---- the ancestors of a path are what stands before its slashes
+-- ---- the ancestors of a path are what is before its slashes
 
 pub ancestor_before : (d path : List ℕ) → In d (ancestors path) → (rest : List ℕ) × (path ≡ d ++ 47 ∷ rest)
 ancestor_before d [] h = absurd (false≢true h)
@@ -63,7 +63,7 @@ module _ (packages : List ℕ → Bool) (paths : List (List ℕ)) where
   abbrev all : List (List ℕ)
   all = paths ++ filter (λ d. not (packages d)) (flat_map ancestors paths)
 
-  -- a directory on the way to a path that is no package
+  -- a directory on the way to a path that is not a package
   abbrev On : List ℕ → Type 0
   On d = (not (packages d) ≡ true) × ((rest : List ℕ) × In (d ++ 47 ∷ rest) paths)
 

@@ -1,4 +1,4 @@
--- Which texts stand in a list.
+-- Which texts are in a list.
 use Rattle.std.proofs.Common.{◌≡◌, ◌∙◌, ap, sym, refl, ℕ, Bool, true, false, cond, ◌||◌, ◌⊎◌, inl, inr, List, [], ◌∷◌, ◌++◌, Option, Some, None, map as each, rules}
 use Rattle.std.specs.Prelude.{bytes_eq, flat_map}
 use Rattle.std.specs.List.{list_any, list_all, filter, filter_map, cons_option}
@@ -11,7 +11,7 @@ same_bytes k q h = search (rules, bytes_eq-Decides)
 pub own_bytes : (k : List ℕ) → bytes_eq k k ≡ true
 own_bytes k = search (rules, bytes_eq-Decides)
 
--- the text stands in the list
+-- the text is in the list
 abbrev pub In : List ℕ → List (List ℕ) → Type 0
 In x xs = list_any (bytes_eq x) xs ≡ true
 

@@ -1,4 +1,4 @@
--- Sorted names go by what stands in the list.
+-- Sorted names go by what is in the list.
 use Rattle.std.proofs.Common.{◌≡◌, ◌∙◌, ap, sym, refl, arith, ℕ, Bool, true, false, cond, ◌||◌, List, [], ◌∷◌, length, Option, Some, None, map as each}
 use Rattle.std.specs.Prelude.{bytes_eq}
 use Rattle.std.specs.FinMap as map
@@ -57,7 +57,7 @@ zero_found (e ∷ es) q =
     let or_else : Option ℕ → Option ℕ = λ o. cond (eq_by_cmp (slice_cmp nat_cmp) q e) (Some 0) o in
     ap or_else (zero_found es q) ∙ either_found (eq_by_cmp (slice_cmp nat_cmp) q e) (list_any (eq_by_cmp (slice_cmp nat_cmp) q) es)
 
--- lists in which the same names stand are sorted alike
+-- lists in which the same names are are sorted alike
 pub sorted_same : (xs ys : List (List ℕ)) → ((x : List ℕ) → In x xs → In x ys) → ((x : List ℕ) → In x ys → In x xs) → sorted_names xs ≡ sorted_names ys
 sorted_same xs ys to from =
     let same : (p : List ℕ → Bool) → list_any p xs ≡ list_any p ys = λ p. bool_same (list_any p xs) (list_any p ys)

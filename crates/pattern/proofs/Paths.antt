@@ -132,7 +132,7 @@ any_each : (f : List ℕ → List ℕ) (p : List ℕ → Bool) (xs : List (List 
 any_each f p [] = refl
 any_each f p (x ∷ xs) = ap (λ b. p (f x) || b) (any_each f p xs)
 
--- no package stands before a file of the directory
+-- no package is before a file of the directory
 pub open_name : (packages : List ℕ → Bool) (directory name : List ℕ) → has_no_slash name ≡ true → is_open packages directory name ≡ true
 open_name packages directory name h = ap (λ a. not (list_any (λ d. packages (path_in directory d)) a)) (no_ancestors name h)
 

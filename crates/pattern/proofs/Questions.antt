@@ -12,7 +12,7 @@ use Rattle.pattern.proofs.Members.{same_bytes}
 abbrev pub NoSpace : List ℕ → Type 0
 NoSpace text = list_all (λ b. not (is_space b)) text ≡ true
 
--- ---- no space stands in a text whose segments have none
+-- ---- no space is in a text whose segments have none
 
 module _ (is_good : ℕ → Bool) (apart : is_good 32 ≡ false) where
   no_space_byte : (b : ℕ) → is_good b ≡ true → not (is_space b) ≡ true
@@ -73,7 +73,7 @@ no_space_at (b ∷ text) h =
     let both = and_parts (not (is_space b)) (list_all (λ b. not (is_space b)) text) h in
     ap (λ e. cond e (1 + position_or_len is_space text) 0) both.0 ∙ ap (λ n. 1 + n) (no_space_at text both.1) ∙ omega arith
 
--- what stands before the first space has none
+-- what is before the first space has none
 pub before_has_none : (text : List ℕ) → NoSpace (pattern_in text)
 before_has_none [] = refl
 before_has_none (b ∷ text) =

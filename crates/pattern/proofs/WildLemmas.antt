@@ -25,7 +25,7 @@ pub end_of_end : {X : Type 0} (test : List X → Bool) (xs : List X) → some_en
 end_of_end test [] = refl
 end_of_end test (x ∷ xs) = ap (λ b. (test (x ∷ xs) || some_end test xs) || b) (end_of_end test xs) ∙ again (test (x ∷ xs)) (some_end test xs)
 
--- what ends begin with a first item, the rest's ends have behind it
+-- what ends begin with a first item, the rest's ends have after it
 pub end_behind : {X : Type 0} (fits : X → Bool) (test : List X → Bool) (xs : List X) → some_end (first_fits fits test) xs ≡ true → some_end test xs ≡ true
 end_behind fits test [] h = absurd (false≢true h)
 end_behind fits test (x ∷ xs) h =

@@ -11,11 +11,11 @@ is_star b = b == 42
 abbrev pub is_double_star : List ℕ → Bool
 is_double_star segment = bytes_eq segment (codes "**")
 
--- `*` matches zero or more bytes of a segment, and any other byte itself
+-- `*` matches zero or more bytes of a segment, and any other byte matches itself
 abbrev pub segment_matches : List ℕ → List ℕ → Bool
 segment_matches = wild_matches is_star (λ b c. b == c)
 
--- `**` matches zero or more segments, and any other segment one
+-- `**` matches zero or more segments, and any other segment matches one
 abbrev pub path_matches : List (List ℕ) → List (List ℕ) → Bool
 path_matches = wild_matches is_double_star segment_matches
 

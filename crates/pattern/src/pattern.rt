@@ -5,9 +5,9 @@ ghost use Rattle.pattern.specs.Patterns as patterns;
 ghost use Rattle.pattern.specs.Rest.{rest_segments};
 
 use crate::walk::segments_match;
+use base_types::{Memory, Text};
 use std::alloc::Global;
 use std::marker::Model;
-use texts::{Memory, Text};
 use thiserror::Error;
 
 /// Why there is no pattern.
@@ -16,7 +16,7 @@ pub enum BadPattern {
     /// The text is not a pattern.
     #[error("not a pattern")]
     Code21,
-    /// A growth was refused.
+    /// An allocation failed.
     #[error("out of memory")]
     Memory(Memory),
 }
@@ -24,7 +24,7 @@ pub enum BadPattern {
 impl From<Memory> for BadPattern {
     ghost use Rattle.std.specs.Prelude.{◌≡◌};
     ghost use Rattle.pattern.specs.declared.pattern.BadPattern.TheVariants.{Memory};
-    ghost use Rattle.texts.specs.Refusals.{memory};
+    ghost use Rattle.base_types.specs.Refusals.{memory};
 
     ghost from_gives = { λ _ e. e ≡ Memory memory };
 
@@ -76,8 +76,8 @@ fn is_pattern(text: &str) -> bool
     text.split('/').all(is_pattern_segment)
 }
 
-/// A glob pattern: segments joined by `/`, at most 255 bytes. Each is `**` alone, or is made of bytes of
-/// file names and `*` without two `*` in a row and is neither `.` nor `..`. A contract sees its bytes.
+/// A glob pattern: segments joined by `/`, at most 255 bytes. Each segment is `**` alone, or consists of bytes of file
+/// names and `*`, without two `*` in a row, and is neither `.` nor `..`. A contract sees its bytes.
 #[derive(Drop)]
 pub struct Pattern {
     text: Text,
@@ -95,7 +95,7 @@ impl Model for Pattern {
 }
 
 impl Pattern {
-    /// Takes exactly the texts that are patterns; another text is `Code21`.
+    /// Reads a pattern from a text that is one; another text is `Code21`.
     pub fn read(alloc: Global, text: &str) -> Result<Pattern, BadPattern>
         ensures ok { IfOk result (λ p. p ≡ text.now) }
         ensures pattern { IfOk result (λ p. IsTrue (patterns.is_pattern p)) }
@@ -117,15 +117,15 @@ impl Pattern {
     }
 
     /// Returns whether the pattern matches the path: `*` matches zero or more bytes inside a segment, and `**` zero or
-    /// more whole segments. It takes no memory, and time near to the product of the longest run between two `**` and
-    /// the path.
+    /// more whole segments. It allocates nothing. The time is near to the product of the longest run between two `**`
+    /// and the path.
     pub fn matches(&self, path: &str) -> bool
         ensures { result ≡ patterns.path_matches (segments self.now) (segments path.now) }
     {
         segments_match(Some(self.text.as_str()), Some(path))
     }
 
-    /// Returns the first segment and the pattern of the others, if there are others.
+    /// Returns the first segment and the pattern of the others, if there are any.
     pub fn split_first(&self, alloc: Global) -> Result<(Text, Option<Pattern>), Memory>
         ensures { IfOk result (λ x. segments self.now ≡ x.0 ∷ rest_segments x.1) }
     {

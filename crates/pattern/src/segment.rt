@@ -65,8 +65,8 @@ fn bytes_match(pattern: &[u8], name: &[u8]) -> bool
 }
 
 /// Returns whether one segment of a pattern matches a name: `*` matches zero or more bytes, a leading dot too, and any
-/// other byte itself. It takes no memory, and time near to the product of the longest run between two stars and the
-/// name.
+/// other byte matches itself. It allocates nothing. The time is near to the product of the longest run between two
+/// stars and the name.
 pub fn segment_matches(segment: &str, name: &str) -> bool
     ensures { result ≡ patterns.segment_matches segment.now name.now }
 {

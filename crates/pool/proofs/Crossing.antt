@@ -1,4 +1,5 @@
--- What a worker is given, and what it gives back, may go to another thread. Workers share values of nodes, and the board.
+-- What a worker is given, and what it gives back, may go to another thread. Workers share values of nodes, and the
+-- board.
 use denote.RattleType.{RattleType}
 use denote.Param.Send.{IsSend, IsSync, view_send, sendable}
 use denote.Param.SendFields.{as_row_send, declared_send, declared_sync, variants_send}
@@ -17,9 +18,9 @@ use Rattle.board.specs.contracts.view.Entry
 use Rattle.core.proofs.option.Option.TheSendSync as OptionSends
 use Rattle.core.specs.contracts.option.Option
 use Rattle.evaluator.proofs.Trees.{trees_cross}
-use Rattle.freezing.proofs.frozen.Frozen.TheLaws.TheKnot as frozen
-use Rattle.freezing.proofs.laid.Laid.TheSendSync as LaidSends
-use Rattle.freezing.specs.contracts.value.FrozenValue
+use Rattle.values_freeze.proofs.frozen.Frozen.TheLaws.TheKnot as frozen
+use Rattle.values_freeze.proofs.laid.Layout.TheSendSync as LaidSends
+use Rattle.values_freeze.specs.contracts.value.FrozenValue
 use Rattle.keys.proofs.key.Key.TheSendSync as KeySends
 use Rattle.keys.proofs.value.BuildName.TheSendSync as BuildNameSends
 use Rattle.keys.proofs.value.DirectoryNames.TheSendSync as DirectoryNamesSends
@@ -28,20 +29,20 @@ use Rattle.keys.proofs.value.Names.TheSendSync as NamesSends
 use Rattle.keys.proofs.value.Paths.TheSendSync as PathsSends
 use Rattle.keys.specs.contracts.job.Job
 use Rattle.keys.specs.contracts.rules.Turn
-use Rattle.keys.specs.contracts.turned.Answer
+use Rattle.keys.specs.contracts.turned.TurnResult
 use Rattle.keys.specs.contracts.turned.Turned
 use Rattle.keys.specs.contracts.value.Value
 use Rattle.keys.specs.declared.rules.Rules.{Ghosts}
-use Rattle.module_values.proofs.functions.Index.TheSendSync as IndexSends
-use Rattle.module_values.proofs.targets.Targets.TheSendSync as TargetsSends
-use Rattle.module_values.specs.contracts.bindings.Function
-use Rattle.module_values.specs.contracts.functions.Functions
-use Rattle.module_values.specs.contracts.modules.ModuleValue
-use Rattle.module_values.specs.contracts.modules.Module
-use Rattle.texts.proofs.text.Text.TheSendSync as TextSends
-use Rattle.pool.proofs.bell.Bells.TheSendSync as BellsSends
-use Rattle.pool.specs.contracts.bell.Bells
-use Rattle.pool.specs.contracts.worker.Back
+use Rattle.values_modules.proofs.functions.Index.TheSendSync as IndexSends
+use Rattle.values_modules.proofs.targets.Targets.TheSendSync as TargetsSends
+use Rattle.values_modules.specs.contracts.bindings.Function
+use Rattle.values_modules.specs.contracts.functions.Functions
+use Rattle.values_modules.specs.contracts.modules.ModuleValue
+use Rattle.values_modules.specs.contracts.modules.Module
+use Rattle.base_types.proofs.text.Text.TheSendSync as TextSends
+use Rattle.pool.proofs.notifier.Notifiers.TheSendSync as BellsSends
+use Rattle.pool.specs.contracts.notifier.Notifiers
+use Rattle.pool.specs.contracts.worker.WorkerReturn
 
 -- modules
 frozen_send : IsSend FrozenValue.the_row
@@ -94,8 +95,8 @@ module _ (R S : RattleType) (g : Ghosts R.Denot S.Denot) (s : IsSend S) where
   turn_send : IsSend (Turn.the_row S)
   turn_send = variants_send (Turn.enum S) ((as_row_send (row_field S) s, (Vec-send _ KeySends.the_send, tt)), ((value_send, tt), tt))
 
-  answer_send : IsSend (Answer.the_row S)
-  answer_send = variants_send (Answer.enum S) ((turn_send, tt), ((search (crosses, sendable) depth 60 fits 20000, tt), ((search (crosses, sendable) depth 60 fits 20000, tt), tt)))
+  answer_send : IsSend (TurnResult.the_row S)
+  answer_send = variants_send (TurnResult.enum S) ((turn_send, tt), ((search (crosses, sendable) depth 60 fits 20000, tt), ((search (crosses, sendable) depth 60 fits 20000, tt), tt)))
 
   turned_parts_send : IsSend (Turned.TheInside.the_row R S g)
   turned_parts_send = declared_send (Turned.TheInside.the_type R S g) (KeySends.the_send, (Vec-send _ (Arc-send _ value_send value_sync), (answer_send, tt)))
@@ -115,14 +116,14 @@ module _ (R S : RattleType) (g : Ghosts R.Denot S.Denot) (s : IsSend S) where
   board_sync = declared_sync (Board.the_type R S g) (search (TableSends.the_sync, slot_send, send, sync, frees) depth 20 fits 20000, (search sendable, tt))
 
   -- what a worker gives back
-  pub back_send : IsSend R → IsSend (Back.the_row R S g)
-  back_send r = declared_send (Back.the_type R S g) (as_row_send (row_field R) r, (hand_send, tt))
+  pub back_send : IsSend R → IsSend (WorkerReturn.the_row R S g)
+  back_send r = declared_send (WorkerReturn.the_type R S g) (as_row_send (row_field R) r, (hand_send, tt))
 
-  -- what a worker's closure has taken: the handle to wait by, the board, the bells, its hand and its rules
+  -- what a worker's closure has taken: the handle to wait by, the board, the notifiers, its hand and its rules
   pub taken_send : (T : RattleType) (name : List ℕ) (ℓ ℓ' ℓ'' : NamedLft) → IsSync (param 2 T) → IsSend R
-      → IsSend (TupleAt name ((shr_ref_field ℓ (param 2 T) tt).row ∷ (shr_ref_field ℓ' (Board.the_row R S g) tt).row ∷ (shr_ref_field ℓ'' Bells.the_row tt).row ∷ Hand.the_row R S g ∷ R ∷ []))
+      → IsSend (TupleAt name ((shr_ref_field ℓ (param 2 T) tt).row ∷ (shr_ref_field ℓ' (Board.the_row R S g) tt).row ∷ (shr_ref_field ℓ'' Notifiers.the_row tt).row ∷ Hand.the_row R S g ∷ R ∷ []))
   taken_send T name ℓ ℓ' ℓ'' t r =
-      let waits : RattleType = (shr_ref_field ℓ (param 2 T) tt).row in let board : RattleType = (shr_ref_field ℓ' (Board.the_row R S g) tt).row in let bells : RattleType = (shr_ref_field ℓ'' Bells.the_row tt).row in
+      let waits : RattleType = (shr_ref_field ℓ (param 2 T) tt).row in let board : RattleType = (shr_ref_field ℓ' (Board.the_row R S g) tt).row in let bells : RattleType = (shr_ref_field ℓ'' Notifiers.the_row tt).row in
       let waits_send : IsSend waits = search (t, sendable) depth 20 in let board_send : IsSend board = search (board_sync, sendable) depth 20 in
       let bells_send : IsSend bells = search (BellsSends.the_sync, sendable) depth 20 in
       declared_send (type_at name (waits ∷ board ∷ bells ∷ Hand.the_row R S g ∷ R ∷ []))

@@ -10,8 +10,8 @@ use Rattle.node.specs.Graphs.{GraphView}
 use Rattle.pool.specs.Serving.{made_in}
 use Rattle.round.specs.declared.stop.Stop.{Stop}
 use Rattle.round.specs.declared.stop.Stop.TheVariants as stop
-use Rattle.texts.specs.Refusals.{memory}
-use Rattle.texts.specs.declared.memory.Memory.{Memory}
+use Rattle.base_types.specs.Refusals.{memory}
+use Rattle.base_types.specs.declared.memory.Memory.{Memory}
 
 -- the stop of what ended with one
 abbrev stop_of : {T : Type 0} → Result T Stop → Stop

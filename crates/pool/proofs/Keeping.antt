@@ -12,17 +12,17 @@ use Rattle.board.proofs.Looks.{looked_same}
 use Rattle.board.specs.declared.view.Entry.{Entry}
 use Rattle.board.proofs.Moves.{total_set, total_snoc, below}
 use Rattle.board.proofs.Taking.{there}
-use Rattle.evaluation.specs.Value.{In}
+use Rattle.engine_semantics.specs.Value.{In}
 use Rattle.keys.specs.Jobs.{JobView, Outcome, Made, turns_made}
 use Rattle.keys.specs.declared.key.Key.{Key}
 use Rattle.node.specs.Graphs.{GraphView}
 use Rattle.node.proofs.Lists.{some_is, none_some, not_in}
-use Rattle.open_nodes.specs.TurnCounts.{HasMade}
-use Rattle.open_nodes.specs.Nodes.{node_at}
-use Rattle.open_nodes.specs.declared.table.Node.{Node}
-use Rattle.open_nodes.specs.declared.table.Phase.TheVariants as phase
+use Rattle.round_nodes.specs.TurnCounts.{HasMade}
+use Rattle.round_nodes.specs.Nodes.{node_at}
+use Rattle.round_nodes.specs.declared.table.Node.{Node}
+use Rattle.round_nodes.specs.declared.table.Phase.TheVariants as phase
 use Rattle.round.specs.Here.{IsResting}
-use Rattle.round.specs.Rounds.{standing, StandsBeside, IsStalled, IsOfJobOut, HandsOut, TakesBack, KeepsJobs, KeepsAllJobs}
+use Rattle.round.specs.Rounds.{round_view, AgreesWith, IsStalled, IsOfJobOut, HandsOut, TakesBack, KeepsJobs, KeepsAllJobs}
 use Rattle.round.specs.Turning.{IsOutWith}
 use Rattle.round.specs.declared.rounds.Round.{Round}
 use Rattle.pool.specs.Serving.{made_in, one_out, jobs_out, IsSameHost, IsShutOnly, IsServing}
@@ -47,7 +47,7 @@ none_in [] f = refl
 none_in (x ∷ xs) f = absurd (f x here)
   where
     here : In x (x ∷ xs)
-    here = Rattle.evaluation.specs.Value.first
+    here = Rattle.engine_semantics.specs.Value.first
 
 not_both : (n : Node) → n.phase ≡ phase.Running → n.phase ≡ phase.Out → ⊥
 not_both n a b = no (sym a ∙ b)
@@ -58,18 +58,18 @@ not_both n a b = no (sym a ∙ b)
 module _ {R S : Type 0} where
   -- with no job out and none ready the round is stalled
   pub is_stalled : (graph : GraphView) (round : Round R S) (v : View JobView Outcome) (roots : List Key) (own places hands out handed : ℕ) → IsServing graph round v roots own places hands out handed → out ≡ 0
-      → (standing round).table.ready.keys ≡ [] → IsStalled (standing round)
+      → (round_view round).table.ready.keys ≡ [] → IsStalled (round_view round)
   is_stalled graph round v roots own places hands out handed s none ready =
-      (ready, none_in (standing round).out (λ k i. let at = s.posted k i in none_at v.out (s.counted ∙ none) at.0 at.1 at.2))
+      (ready, none_in (round_view round).out (λ k i. let at = s.posted k i in none_at v.out (s.counted ∙ none) at.0 at.1 at.2))
 
   -- a key that is ready has no job out
-  ready_not_out : (graph : GraphView) (round : Round R S) (key : Key) (other : JobView) → StandsBeside graph round → In key (standing round).table.ready.keys → IsOfJobOut graph (standing round) other → key ≡ other.key → ⊥
+  ready_not_out : (graph : GraphView) (round : Round R S) (key : Key) (other : JobView) → AgreesWith graph round → In key (round_view round).table.ready.keys → IsOfJobOut graph (round_view round) other → key ≡ other.key → ⊥
   ready_not_out graph round key other beside i o e = let n = beside.0.whole.ready_now key i in
       not_both o.node (subst (λ (m : Node). m.phase ≡ phase.Running) (some_is (sym n.1 ∙ ap (node_at round.table.nodes) e ∙ o.there)) n.2) o.out
 
   -- a job was handed out and posted
-  pub given : (graph : GraphView) (before later : Round R S) (v w : View JobView Outcome) (p : ℕ) (job : JobView) (key : Key) → StandsBeside graph later → KeepsAllJobs graph (standing before) (standing later)
-      → HandsOut graph key (standing before) (standing later) (Some job) → HasPosted v p job w
+  pub given : (graph : GraphView) (before later : Round R S) (v w : View JobView Outcome) (p : ℕ) (job : JobView) (key : Key) → AgreesWith graph later → KeepsAllJobs graph (round_view before) (round_view later)
+      → HandsOut graph key (round_view before) (round_view later) (Some job) → HasPosted v p job w
       → (roots : List Key) (own places hands out handed : ℕ) → IsServing graph before v roots own places hands out handed → IsServing graph later w roots own places hands (out + 1) (handed + 1)
   given graph before later v w p job key beside others h did roots own places hands out handed s =
       let u = did.1.0 in let same = looked_same 0 p v u did.1.1 in let was : get_elem? v.out p ≡ some None = did.0 in
@@ -93,7 +93,7 @@ module _ {R S : Type 0} where
         counted = let t = total_set one_out v.out p None (Some job) was in let a = ap (total one_out) out_is in let c = s.counted in omega (arith, t, a, c);
         handed_out = let a = ap made_in collected in let h = s.handed_out in omega (arith, a, h);
         known = λ q found e. dite (ℕ_discrete q p)
-            (λ same_place. subst (IsOfJobOut graph (standing later)) (some_is (some-injective (Some job) (Some found) (sym here ∙ (ap (get_elem? w.out) (sym same_place) ∙ e))))
+            (λ same_place. subst (IsOfJobOut graph (round_view later)) (some_is (some-injective (Some job) (Some found) (sym here ∙ (ap (get_elem? w.out) (sym same_place) ∙ e))))
             (subst (λ (k : Key). IsOutWith graph later.table k job.answers) (sym h.1) h.2))
             (λ ne. others found (s.known q found (before_at q ne found e)));
         apart = λ q r found other e f same_key. dite (ℕ_discrete q p)
@@ -108,14 +108,14 @@ module _ {R S : Type 0} where
       }
 
   -- a job was handed out, and the host made its turn and took it back
-  pub made_here : (old new : GraphView) (before between later : Round R S) (v : View JobView Outcome) (job : JobView) (key : Key) → HandsOut old key (standing before) (standing between) (Some job)
-      → KeepsAllJobs old (standing before) (standing between) → StandsBeside new later → KeepsJobs job.key old new (standing between) (standing later) → TakesBack (standing between) (standing later) job.key
+  pub made_here : (old new : GraphView) (before between later : Round R S) (v : View JobView Outcome) (job : JobView) (key : Key) → HandsOut old key (round_view before) (round_view between) (Some job)
+      → KeepsAllJobs old (round_view before) (round_view between) → AgreesWith new later → KeepsJobs job.key old new (round_view between) (round_view later) → TakesBack (round_view between) (round_view later) job.key
       → (roots : List Key) (own places hands out handed : ℕ) → IsServing old before v roots own places hands out handed → IsServing new later v roots (own + 1) places hands out (handed + 1)
   made_here old new before between later v job key h kept beside others back roots own places hands out handed s = record {
     beside = beside;
     same_roots = back.0 ∙ (h.4 ∙ s.same_roots);
     made = subst (HasMade later.table) (omega arith) (back.2 (own + made_in v.collected) (h.5 (own + made_in v.collected) s.made));
-    posted = λ k i. ⊎_elim (s.posted k) (λ same. absurd (back.1.gone (subst (λ (x : Key). In x (standing later).out) (sym (h.1 ∙ same)) i))) (h.3.from k (back.1.from k i));
+    posted = λ k i. ⊎_elim (s.posted k) (λ same. absurd (back.1.gone (subst (λ (x : Key). In x (round_view later).out) (sym (h.1 ∙ same)) i))) (h.3.from k (back.1.from k i));
     sized = s.sized;
     staffed = s.staffed;
     none_answered = s.none_answered;
@@ -143,8 +143,8 @@ module _ {R S : Type 0} where
   }
 
   -- a turn was collected and taken back
-  pub taken : (old new : GraphView) (before later : Round R S) (v w : View JobView Outcome) (p : ℕ) (turn : Outcome) → StandsBeside new later → KeepsJobs turn.asked.key old new (standing before) (standing later)
-      → TakesBack (standing before) (standing later) turn.asked.key → turn.ending ≡ Made → HasCollected (λ t. t.asked) v p turn w
+  pub taken : (old new : GraphView) (before later : Round R S) (v w : View JobView Outcome) (p : ℕ) (turn : Outcome) → AgreesWith new later → KeepsJobs turn.asked.key old new (round_view before) (round_view later)
+      → TakesBack (round_view before) (round_view later) turn.asked.key → turn.ending ≡ Made → HasCollected (λ t. t.asked) v p turn w
       → (roots : List Key) (own places hands out handed : ℕ) → IsServing old before v roots own places hands out handed → IsServing new later w roots own places hands (out - 1) handed × (0 < out)
   taken old new before later v w p turn beside others back made did roots own places hands out handed s =
       let u = did.1.0 in let same = looked_same 3 p v u did.1.1 in let was : get_elem? v.out p ≡ some (Some turn.asked) = did.0 in
@@ -165,7 +165,7 @@ module _ {R S : Type 0} where
             at.0,
             at.1,
             ap (λ (l : List (Option JobView)). get_elem? l at.0) out_is
-                ∙ (set_else v.out p at.0 None (λ e. back.1.gone (subst (λ (x : Key). In x (standing later).out) (sym at.3 ∙ ap (λ (j : JobView). j.key) (some_is (some-injective (Some at.1) (Some turn.asked) (sym at.2 ∙ (ap (get_elem? v.out) e ∙ was))))) i)) ∙ at.2),
+                ∙ (set_else v.out p at.0 None (λ e. back.1.gone (subst (λ (x : Key). In x (round_view later).out) (sym at.3 ∙ ap (λ (j : JobView). j.key) (some_is (some-injective (Some at.1) (Some turn.asked) (sym at.2 ∙ (ap (get_elem? v.out) e ∙ was))))) i)) ∙ at.2),
             at.3,
           );
           sized = ap length out_is ∙ (length-set v.out p None ∙ s.sized);
@@ -188,7 +188,7 @@ pub rep_long : {X : Type 0} (n : ℕ) (x : X) → length (replicate n x) ≡ n
 rep_long zero x = refl
 rep_long (suc n) x = ap suc (rep_long n x)
 
--- a round of which the first turns were made, beside a new board
+-- a round of which the first turns were made, with a new board
 pub begins : {R S : Type 0} (graph : GraphView) (round : Round R S) (v : View JobView Outcome) (roots : List Key) (first n : ℕ) → v ≡ opened n v.hands
     → IsResting graph round roots first → IsServing graph round v roots first n v.hands 0 first
 begins graph round v roots first n new rests =

@@ -1,14 +1,15 @@
--- The hands of a pool: those at work in threads, those that are not hired yet, and the host's own.
+-- The hands of a pool: those of workers, those that are left for further workers, and the host's own.
 use Rattle.std.specs.Prelude.{◌≡◌, ℕ, ◌+◌, ◌<◌, ◌≤◌, All, length, vec_capacity}
 use Rattle.atomic_table.specs.Seated.{TableId}
 use Rattle.board.specs.Places.{IsHandAtRest}
 use Rattle.board.specs.Rule.{total}
 use Rattle.pool.specs.Serving.{made_in}
-use Rattle.pool.specs.declared.crew.Crew.{Crew}
+use Rattle.pool.specs.declared.workers.Workers.{Workers}
 use Rattle.pool.specs.declared.own.Own.{Own}
 
--- each worker is at this board, each of the others has a hand of it, and there is room for all of them and the host's own
-pub record IsCrew {R S : Type 0} (id : TableId) (crew : Crew R S) : Type 0 where
+-- each worker is at this board, each of the others has a hand of it, and there is room for all of them and the host's
+-- own
+pub record IsCrew {R S : Type 0} (id : TableId) (crew : Workers R S) : Type 0 where
   pub paired : length crew.hands.items ≡ length crew.rules.items
   pub here : All (λ w. w.promise.board.now.table.shared.table_id ≡ id) crew.workers.items
   pub seats : All (λ h. IsHandAtRest id h.seat) crew.hands.items
@@ -17,7 +18,7 @@ pub record IsCrew {R S : Type 0} (id : TableId) (crew : Crew R S) : Type 0 where
   pub workers_fit : length crew.rules.items + length crew.workers.items ≤ vec_capacity crew.workers
 
 -- as many are in it, and their rules have made the turns that their hands answered
-pub record SameCrew {R S : Type 0} (turns : R → ℕ) (before after : Crew R S) : Type 0 where
+pub record SameCrew {R S : Type 0} (turns : R → ℕ) (before after : Workers R S) : Type 0 where
   pub sized : length after.rules.items + length after.workers.items ≡ length before.rules.items + length before.workers.items
   pub counted : total turns after.rules.items + total (λ w. turns w.promise.given.value) after.workers.items + total (λ h. made_in h.seat.me.0.answers) before.hands.items
       ≡ total turns before.rules.items + total (λ w. turns w.promise.given.value) before.workers.items + total (λ h. made_in h.seat.me.0.answers) after.hands.items

@@ -4,15 +4,15 @@ use mathlib.Core.Option.{some}
 use lib.ListN.{get_elem?}
 use Rattle.board.specs.Rule.{total}
 use Rattle.board.specs.declared.view.View.{View}
-use Rattle.evaluation.specs.Reply.{Reply}
-use Rattle.evaluation.specs.Value.{In}
+use Rattle.engine_semantics.specs.Reply.{Reply}
+use Rattle.engine_semantics.specs.Value.{In}
 use Rattle.keys.specs.Jobs.{JobView, Outcome, turns_made}
 use Rattle.keys.specs.declared.key.Key.{Key}
 use Rattle.keys.specs.declared.value.Value.{Value}
 use Rattle.node.specs.Graphs.{GraphView}
-use Rattle.open_nodes.specs.TurnCounts.{HasMade}
-use Rattle.open_nodes.specs.declared.table.Table.{Table}
-use Rattle.round.specs.Rounds.{Standing, standing, StandsBeside, IsOfJobOut}
+use Rattle.round_nodes.specs.TurnCounts.{HasMade}
+use Rattle.round_nodes.specs.declared.table.OpenNodes.{OpenNodes}
+use Rattle.round.specs.Rounds.{RoundView, round_view, AgreesWith, IsOfJobOut}
 use Rattle.round.specs.Since.{IsTrueSinceSome, IsAfterSince}
 use Rattle.round.specs.declared.rounds.Round.{Round}
 
@@ -51,32 +51,33 @@ abbrev pub IsPostedKey : View JobView Outcome → Key → Type 0
 IsPostedKey v k = (p : ℕ) × (job : JobView) × (get_elem? v.out p ≡ some (Some job)) × (job.key ≡ k)
 
 -- each job on the board is one of the round's that are out
-abbrev pub AreKnown : GraphView → Standing → View JobView Outcome → Type 0
+abbrev pub AreKnown : GraphView → RoundView → View JobView Outcome → Type 0
 AreKnown graph s v = (p : ℕ) (job : JobView) → get_elem? v.out p ≡ some (Some job) → IsOfJobOut graph s job
 
 -- no key has two
 abbrev pub AreApart : View JobView Outcome → Type 0
 AreApart v = (p q : ℕ) (job other : JobView) → get_elem? v.out p ≡ some (Some job) → get_elem? v.out q ≡ some (Some other) → job.key ≡ other.key → p ≡ q
 
--- The round stands beside the graph, and each of its jobs that is out lies on the board of so many places. The turns that the host made itself, with
--- those that were collected, are those that the round has counted. With the jobs that are out they are as many as were handed out.
+-- The round agrees with the graph, and each of its jobs that is out is on the board, which has this many places. The
+-- turns that the host made itself, with those that were collected, are those that the round has counted. With the jobs
+-- that are out they are as many as were handed out.
 pub record IsServing {R S : Type 0} (graph : GraphView) (round : Round R S) (v : View JobView Outcome) (roots : List Key) (own places hands out handed : ℕ) : Type 0 where
-  pub beside : StandsBeside graph round
-  pub same_roots : (standing round).roots ≡ roots
+  pub beside : AgreesWith graph round
+  pub same_roots : (round_view round).roots ≡ roots
   pub made : HasMade round.table (own + made_in v.collected)
-  pub posted : (k : Key) → In k (standing round).out → IsPostedKey v k
+  pub posted : (k : Key) → In k (round_view round).out → IsPostedKey v k
   pub sized : length v.out ≡ places
   pub staffed : v.hands ≡ hands
   pub none_answered : v.answers ≡ []
   pub counted : jobs_out v ≡ out
   pub handed_out : own + made_in v.collected + out ≡ handed
-  pub known : AreKnown graph (standing round) v
+  pub known : AreKnown graph (round_view round) v
   pub apart : AreApart v
 
 -- what was true after some choices since an entry is true after some more
-abbrev pub StaysTrueSince : (Key → List Value → Reply Key Value) → (Key → Option Value) → GraphView → GraphView → Table → Table → Type 0
+abbrev pub StaysTrueSince : (Key → List Value → Reply Key Value) → (Key → Option Value) → GraphView → GraphView → OpenNodes → OpenNodes → Type 0
 StaysTrueSince next read old new before after = (roots : List Key) (entry : GraphView) → IsTrueSinceSome next read roots entry old before → IsTrueSinceSome next read roots entry new after
 
--- where it was true, the graph is as after a stop
-abbrev pub IsAfterStop : (Key → List Value → Reply Key Value) → (Key → Option Value) → GraphView → GraphView → Table → Type 0
+-- if it was true, the graph is as after a stop
+abbrev pub IsAfterStop : (Key → List Value → Reply Key Value) → (Key → Option Value) → GraphView → GraphView → OpenNodes → Type 0
 IsAfterStop next read old new before = (roots : List Key) (entry : GraphView) → IsTrueSinceSome next read roots entry old before → IsAfterSince next read roots entry new

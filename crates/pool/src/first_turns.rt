@@ -1,19 +1,19 @@
-//! The first turns of an evaluation, which the host makes before there is a board: where no two turns that take long can
-//! be made at once, a thread gains nothing.
+//! The first turns of an evaluation, which the host makes before there is a board. While no two turns that take long
+//! can be made at the same time, a thread gains nothing.
 ghost use Rattle.std.specs.Prelude.{◌≡◌, ◌+◌, ◌≤◌, IfOk, OnOk, OnErr};
 ghost use Rattle.keys.specs.Leaves as leaves;
 ghost use Rattle.pool.specs.Serving.{StaysTrueSince, IsAfterStop};
 ghost use Rattle.round.specs.Here.{IsResting};
-ghost use Rattle.round.specs.Rounds.{standing};
+ghost use Rattle.round.specs.Rounds.{round_view};
 
+use base_types::Memory;
 use filetree::Tree;
 use keys::{Key, Rules};
 use node::Graph;
-use round::{Round, next_key, turn};
-use texts::Memory;
+use round::{Round, make_turn, next_key};
 
-// Returns whether threads may gain by what can be made now, of which this key is the least: several turns, none of a
-// look-up or a glob. Before any turn was made, a root's counts as well.
+// Returns whether threads may gain by what can be made now, of which this key is the least: several turns, none of them
+// of a look-up or a glob. Before any turn was made, a root's turn counts as well.
 fn is_to_share<R: Rules>(round: &Round<R>, key: &Key, made: u64, roots: &[Key]) -> bool {
     match key {
         Key::Module(_) => 1 < round.ready_count(),
@@ -31,8 +31,8 @@ pub(crate) fn make_first_turns<R: Rules>(
     roots: &[Key],
     budget: u64,
 ) -> Result<u64, Memory>
-    requires { IsResting graph.old round.old (standing round.old).roots 0 }
-    ensures rests { IfOk result (λ made. IsResting graph.new round.new (standing round.old).roots
+    requires { IsResting graph.old round.old (round_view round.old).roots 0 }
+    ensures rests { IfOk result (λ made. IsResting graph.new round.new (round_view round.old).roots
         made) }
     ensures counted { IfOk result (λ made. R.turns rules.new ≡ R.turns rules.old + made) }
     ensures within { IfOk result (λ made. made ≤ budget) }
@@ -48,7 +48,7 @@ pub(crate) fn make_first_turns<R: Rules>(
         if is_to_share(round, &key, made, roots) {
             return Ok(made);
         }
-        turn(round, graph, tree, rules, &key)?;
+        make_turn(round, graph, tree, rules, &key)?;
     }
     Ok(budget)
 }

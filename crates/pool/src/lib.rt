@@ -1,15 +1,15 @@
-//! An evaluation by one thread a hand, the caller's among them. The caller hires the others as jobs appear. Layer:
-//! engine, on base, files, values and evaluation of a file. Begin at `evaluations.rt`.
+//! An evaluation by one thread a hand, the caller's among them. The caller hires the others as jobs appear. Begin at
+//! `evaluations.rt`.
 #![tactic(auto)]
 
-mod bell;
-mod board_end;
-mod crew;
+mod board_close;
 mod evaluations;
 mod first_turns;
 mod host;
+mod notifier;
 mod own;
 mod steps;
 mod worker;
+mod workers;
 
 pub use evaluations::evaluate;

@@ -1,4 +1,4 @@
-//! What the host makes turns by itself.
+//! The means by which the host makes turns itself.
 ghost use Rattle.std.specs.Prelude.{◌≡◌, ◌++◌, ◌∷◌, ◌<◌, [], length, vec_capacity};
 
 use board::Hand;
@@ -12,8 +12,8 @@ pub(crate) struct Own<R: Rules> {
     pub(crate) made: u64,
 }
 
-// Divides the rules and the hands: the host has the last ones, and has made so many turns. The others are for workers.
-// There are some, and as many rules as hands, which is the caller's condition.
+// Divides the rules and the hands. The host gets the last ones, and has made this many turns. The others are for
+// workers. There are some, and as many rules as hands.
 pub(crate) fn divide<R: Rules>(
     mut rules: Vec<R>,
     mut hands: Vec<Hand<R>>,

@@ -1,23 +1,23 @@
 //! What the host does in one step: it hands a job out and posts it or makes its turn, or takes a turn back.
 ghost use Rattle.std.specs.Prelude.{◌≡◌, ℕ, ◌+◌, ◌<◌, ◌≤◌, ◌^◌, List, length, true, IfOk, OnOk, OnErr};
 ghost use Rattle.board.specs.Places.{IsHostAtRest};
-ghost use Rattle.evaluation.specs.Value.{In};
+ghost use Rattle.engine_semantics.specs.Value.{In};
 ghost use Rattle.keys.specs.declared.key.Key.{Key};
 ghost use Rattle.keys.specs.Leaves as leaves;
 ghost use Rattle.pool.specs.Crews.{SameOwn};
 ghost use Rattle.pool.specs.Serving.{IsServing, AreKnown, IsSameHost, StaysTrueSince, IsAfterStop, jobs_out, given_out, left_out};
-ghost use Rattle.round.specs.Rounds.{standing, StandsBeside};
+ghost use Rattle.round.specs.Rounds.{round_view, AgreesWith};
 
 use crate::own::Own;
+use base_types::Memory;
 use board::{Board, Host};
 use filetree::Tree;
 use keys::{Job, Key, Rules};
 use node::Graph;
 use round::{Round, next_key};
-use texts::Memory;
 
 // Returns whether the turn of a job takes long enough to be worth a place on the board: it parses a file, or evaluates
-// it. A module or a package asks twice before it does.
+// it. A module or a package asks for two groups before it does.
 fn is_heavy<R: Rules>(job: &Job<R>) -> bool {
     match job.key() {
         Key::Module(_) => job.answers().len() > 1,
@@ -27,9 +27,9 @@ fn is_heavy<R: Rules>(job: &Job<R>) -> bool {
 }
 
 // Hands out the job of the least key that is ready. It is posted if others may make turns meanwhile, and it is heavy or
-// the first of its evaluation. Else the host makes its turn. Returns whether it was posted. A key is ready and a place is
-// empty, which is the caller's condition.
-pub(crate) fn give<R: Rules>(
+// the first of its evaluation. Otherwise the host makes its turn. Returns whether it was posted. A key is ready and a
+// place is empty.
+pub(crate) fn post_next<R: Rules>(
     round: &mut Round<R>,
     graph: &mut Graph,
     tree: &Tree,
@@ -42,8 +42,8 @@ pub(crate) fn give<R: Rules>(
     requires seat { IsHostAtRest board.now.table.shared.table_id host.old.seat }
     requires room { (length host.old.seat.me.0.out ≡ board.now.capacity)
         × (jobs_out host.old.seat.me.0 < board.now.capacity) }
-    requires beside { StandsBeside graph.old round.old }
-    requires ready { (k : Key) × In k (standing round.old).table.ready.keys }
+    requires beside { AgreesWith graph.old round.old }
+    requires ready { (k : Key) × In k (round_view round.old).table.ready.keys }
     requires few { own.old.made + 1 < 2 ^ 64 }
     ensures seat { IsHostAtRest board.now.table.shared.table_id host.new.seat }
     ensures same { IsSameHost host.old.seat.me.0 host.new.seat.me.0 }
@@ -77,7 +77,7 @@ pub(crate) fn give<R: Rules>(
 }
 
 // Collects a turn and takes it back, if one is answered. Returns whether one was.
-pub(crate) fn take<R: Rules>(
+pub(crate) fn collect_next<R: Rules>(
     round: &mut Round<R>,
     graph: &mut Graph,
     tree: &Tree,
@@ -85,8 +85,8 @@ pub(crate) fn take<R: Rules>(
     host: &mut Host<R>,
 ) -> Result<bool, Memory>
     requires seat { IsHostAtRest board.now.table.shared.table_id host.old.seat }
-    requires beside { StandsBeside graph.old round.old }
-    requires known { AreKnown graph.old (standing round.old) host.old.seat.me.0 }
+    requires beside { AgreesWith graph.old round.old }
+    requires known { AreKnown graph.old (round_view round.old) host.old.seat.me.0 }
     ensures seat { IsHostAtRest board.now.table.shared.table_id host.new.seat }
     ensures same { IsSameHost host.old.seat.me.0 host.new.seat.me.0 }
     ensures serving { IfOk result (λ took. (roots : List Key) (own places hands out handed : ℕ)

@@ -3,28 +3,29 @@ ghost use Rattle.std.specs.Prelude.{◌≡◌, ◌+◌};
 ghost use Rattle.board.specs.Places.{IsHandAtRest, IsNewHand};
 ghost use Rattle.pool.specs.Serving.{made_in};
 
-use crate::bell::Bells;
+use crate::notifier::Notifiers;
 use board::{Board, Hand};
 use keys::Rules;
 use std::snapshot::Snapshot;
 use std::sync::Wait;
 use std::thread::Promise;
 
-// What a worker gives back.
+// What a worker returns.
 #[derive(Drop)]
-pub(crate) struct Back<R: Rules> {
+pub(crate) struct WorkerReturn<R: Rules> {
     pub(crate) rules: R,
     pub(crate) hand: Hand<R>,
 }
 
-// The hand comes back at rest to its board, and the rules have made one turn more for each turn that was answered.
+// The promise of a worker: the hand comes back at rest to its board, and the rules have made one turn more for each
+// turn that was answered.
 #[derive(Drop)]
-pub(crate) struct Keeps<'a, R: Rules> {
+pub(crate) struct WorkerPromise<'a, R: Rules> {
     pub(crate) board: &'a Board<R>,
     pub(crate) given: Snapshot<R>,
 }
 
-impl<'a, R: Rules> Promise<Back<R>> for Keeps<'a, R> {
+impl<'a, R: Rules> Promise<WorkerReturn<R>> for WorkerPromise<'a, R> {
     ghost use Rattle.std.specs.Prelude.{◌≡◌, ◌+◌};
     ghost use Rattle.board.specs.Places.{IsHandAtRest};
     ghost use Rattle.pool.specs.Serving.{made_in};
@@ -32,7 +33,7 @@ impl<'a, R: Rules> Promise<Back<R>> for Keeps<'a, R> {
     ghost kept_by = { λ p b. IsHandAtRest p.board.now.table.shared.table_id b.hand.seat × (R.turns b.rules ≡ R.turns p.given.value + made_in b.hand.seat.me.0.answers) };
 }
 
-// Takes a job that nobody has taken yet, makes its turn and answers with it. Returns whether it found one.
+// Takes a job that no hand has taken yet, makes its turn and answers with it. Returns whether it found one.
 pub(crate) fn make_posted<R: Rules>(board: &Board<R>, hand: &mut Hand<R>, rules: &mut R) -> bool
     requires { IsHandAtRest board.now.table.shared.table_id hand.old.seat }
     ensures seat { IsHandAtRest board.now.table.shared.table_id hand.new.seat }
@@ -49,27 +50,27 @@ pub(crate) fn make_posted<R: Rules>(board: &Board<R>, hand: &mut Hand<R>, rules:
     }
 }
 
-// Takes jobs and answers with their turns, until the board is shut. It sleeps where it finds none.
-pub(crate) fn work_on<R: Rules, W: Wait>(
+// Takes jobs and answers with their turns, until the board is shut. It sleeps if it finds none.
+pub(crate) fn worker_loop<R: Rules, W: Wait>(
     rt: &W,
     board: &Board<R>,
-    bells: &Bells,
+    bells: &Notifiers,
     mut hand: Hand<R>,
     mut rules: R,
-) -> Back<R>
+) -> WorkerReturn<R>
     requires { IsNewHand board.now.table.shared.table_id hand.seat }
     ensures seat { IsHandAtRest board.now.table.shared.table_id result.hand.seat }
     ensures counted { R.turns result.rules ≡ R.turns rules + made_in result.hand.seat.me.0.answers }
 {
     for _ in rt.forever() {
-        let heard = bells.jobs.heard();
+        let heard = bells.jobs.epoch();
         if board.is_shut(&mut hand) {
-            return Back { rules, hand };
+            return WorkerReturn { rules, hand };
         }
         if make_posted(board, &mut hand, &mut rules) {
-            bells.turns.ring();
+            bells.turns.notify();
         } else {
-            bells.jobs.wait(rt, heard);
+            bells.jobs.wait_past(rt, heard);
         }
     }
     unreachable!()

@@ -3,17 +3,17 @@ use Rattle.std.proofs.Common.{◌≡◌, ◌⊎◌, inl, inr, ℕ, zero, suc, �
 use Rattle.std.specs.Prelude.{slice_get}
 use Rattle.std.proofs.lemmas.List.{length-take}
 use Rattle.std.proofs.lemmas.Option.{slice_get-get_or}
-use Rattle.evaluation.specs.Reply.{Reply}
-use Rattle.evaluation.specs.Choices.{Legal, none, one, IsPossible, IsStall}
-use Rattle.evaluation.specs.Choices as choices
+use Rattle.engine_semantics.specs.Reply.{Reply}
+use Rattle.engine_semantics.specs.Choices.{Legal, none, one, IsPossible, IsStall}
+use Rattle.engine_semantics.specs.Choices as choices
 use Rattle.keys.specs.Cycles.{cycle}
 use Rattle.keys.specs.declared.key.Key.{Key}
 use Rattle.keys.specs.declared.value.Value.{Value}
 use Rattle.node.specs.Graphs.{record_at}
-use Rattle.open_nodes.specs.Truths.{Past}
-use Rattle.open_nodes.proofs.Grouping.{taken_got}
+use Rattle.round_nodes.specs.Invariants.{Past}
+use Rattle.round_nodes.proofs.Grouping.{taken_got}
 use Rattle.round.specs.Choosing.{IsPossibleAfter}
-use Rattle.round.specs.Replays.{chosen, newest, hands, hand_of, IsAt, AreLegal, IsSpentAt}
+use Rattle.round.specs.Replays.{choice_view, newest, hands, hand_of, IsAt, AreLegal, IsSpentAt}
 use Rattle.round.specs.declared.choice.Choice.{Choice}
 use Rattle.round.specs.declared.choice.Choice.TheVariants as choice
 use Rattle.round.proofs.PlayedChoices.{newest_snoc, hands_snoc}
@@ -58,7 +58,7 @@ fewer_hands (suc n) (suc m) (x ∷ made) h = let r = fewer_hands n m made (omega
 hands_next : (made : List Choice) (n : ℕ) (c : Choice) → slice_get made n ≡ Some c → hands (take (n + 1) made) ≡ hands (take n made) + hand_of c
 hands_next made n c e = ap hands (taken_got made n c e) ∙ hands_snoc (take n made) c
 
--- a hand behind the budget's turns is one too many
+-- a hand after the budget's turns is one too many
 one_too_many : (made : List Choice) (m : ℕ) (c : Choice) (read budget : ℕ) → slice_get made m ≡ Some c → hand_of c ≡ 1 → hands (take m made) ≡ budget → hands (take read made) ≤ budget → m < read → ⊥
 one_too_many made m c read budget e h s b l =
     let n = hands_next made m c e in
@@ -82,18 +82,18 @@ module _ (next : Key → List Value → Reply Key Value) (read : Key → Option 
           let r : ys ≡ cs = cc in
           (subst (λ z. IsPossibleBy z c) r (subst (IsPossibleBy ys) q p), subst AreLegalBy r l)
 
-  legal_next : (made : List Choice) (n : ℕ) (c : Choice) → slice_get made n ≡ Some c → AreLegal next read past (take (n + 1) made) → IsPossibleBy (newest (take n made)) (chosen c) × AreLegal next read past (take n made)
-  legal_next made n c e l = legal_last (chosen c) (newest (take n made)) (subst AreLegalBy (ap newest (taken_got made n c e) ∙ newest_snoc [] (take n made) c) l)
+  legal_next : (made : List Choice) (n : ℕ) (c : Choice) → slice_get made n ≡ Some c → AreLegal next read past (take (n + 1) made) → IsPossibleBy (newest (take n made)) (choice_view c) × AreLegal next read past (take n made)
+  legal_next made n c e l = legal_last (choice_view c) (newest (take n made)) (subst AreLegalBy (ap newest (taken_got made n c e) ∙ newest_snoc [] (take n made) c) l)
 
   -- each choice before the last was possible after those before it
-  legal_at : (more : ℕ) (made : List Choice) (n : ℕ) (c : Choice) → slice_get made n ≡ Some c → n + more < length made → AreLegal next read past (take (n + more + 1) made) → IsPossibleBy (newest (take n made)) (chosen c)
+  legal_at : (more : ℕ) (made : List Choice) (n : ℕ) (c : Choice) → slice_get made n ≡ Some c → n + more < length made → AreLegal next read past (take (n + more + 1) made) → IsPossibleBy (newest (take n made)) (choice_view c)
   legal_at zero made n c e w l = (legal_next made n c e (subst (λ k. AreLegal next read past (take k made)) (let q : n + 0 + 1 ≡ n + 1 = omega arith in q) l)).0
   legal_at (suc more) made n c e w l =
       let x = there made (n + suc more) c w in
       let r = legal_next made (n + suc more) x.0 x.1 l in
       legal_at more made n c e (omega arith) (subst (λ k. AreLegal next read past (take k made)) (let q : n + suc more ≡ n + more + 1 = omega arith in q) r.1)
 
-  legal_before : (made : List Choice) (n m : ℕ) (c : Choice) → slice_get made n ≡ Some c → n < m → m < length made → AreLegal next read past (take m made) → IsPossibleBy (newest (take n made)) (chosen c)
+  legal_before : (made : List Choice) (n m : ℕ) (c : Choice) → slice_get made n ≡ Some c → n < m → m < length made → AreLegal next read past (take m made) → IsPossibleBy (newest (take n made)) (choice_view c)
   legal_before made n m c e l w legal = go (m_of m l)
     where
       m_of : (k : ℕ) → n < k → (more : ℕ) × (k ≡ n + more + 1)
@@ -103,21 +103,21 @@ module _ (next : Key → List Value → Reply Key Value) (read : Key → Option 
         | inr s ↦ elim s [ inl q ↦ (0, omega (arith, q)) | inr b ↦ absurd (omega (arith, b)) ]
       ]
 
-      go : (more : ℕ) × (m ≡ n + more + 1) → IsPossibleBy (newest (take n made)) (chosen c)
+      go : (more : ℕ) × (m ≡ n + more + 1) → IsPossibleBy (newest (take n made)) (choice_view c)
       go x = let q = x.1 in legal_at x.0 made n c e (omega (arith, q)) (subst (λ k. AreLegal next read past (take k made)) q legal)
 
   -- at a stall nothing is possible
-  none_possible : (cs : List (choices.Choice Key)) → IsStall next cycle read (record_at past.entry) past.roots cs → (c : Choice) → IsPossibleBy cs (chosen c) → ⊥
+  none_possible : (cs : List (choices.Choice Key)) → IsStall next cycle read (record_at past.entry) past.roots cs → (c : Choice) → IsPossibleBy cs (choice_view c) → ⊥
   none_possible cs s (choice.Hand k) p = s.0 k p
   none_possible cs s (choice.Back k) p = s.1 k p
   none_possible cs s (choice.Drop k) p = p.2 s
 
   -- where the next choice is not possible, no hand was passed over
-  pub stopped_in_time : (made : List Choice) (budget n : ℕ) (x : Choice) → slice_get made n ≡ Some x → (IsPossibleBy (newest (take n made)) (chosen x) → ⊥) → hands (take n made) ≤ budget → (m : ℕ) (c : Choice) → IsSpentAt next read past made budget m c → ⊥
+  pub stopped_in_time : (made : List Choice) (budget n : ℕ) (x : Choice) → slice_get made n ≡ Some x → (IsPossibleBy (newest (take n made)) (choice_view x) → ⊥) → hands (take n made) ≤ budget → (m : ℕ) (c : Choice) → IsSpentAt next read past made budget m c → ⊥
   stopped_in_time made budget n x e barred b m c s = elim (which m n) [
     | inl l ↦ one_too_many made m c n budget (at_got made m c s.at) s.hand s.spent b l
     | inr r ↦ elim r [
-      | inl q ↦ barred (subst (λ (y : Choice). IsPossibleBy (newest (take n made)) (chosen y)) (same q) (subst (λ k. IsPossibleBy (newest (take k made)) (chosen c)) q s.possible))
+      | inl q ↦ barred (subst (λ (y : Choice). IsPossibleBy (newest (take n made)) (choice_view y)) (same q) (subst (λ k. IsPossibleBy (newest (take k made)) (choice_view c)) q s.possible))
       | inr l ↦ barred (legal_before made n m x e l (at_within made m c s.at) s.legal)
     ]
   ]
@@ -130,7 +130,7 @@ module _ (next : Key → List Value → Reply Key Value) (read : Key → Option 
   stalled_in_time made budget n stall b m c s = elim (which m n) [
     | inl l ↦ one_too_many made m c n budget (at_got made m c s.at) s.hand s.spent b l
     | inr r ↦ elim r [
-      | inl q ↦ none_possible (newest (take n made)) stall c (subst (λ k. IsPossibleBy (newest (take k made)) (chosen c)) q s.possible)
+      | inl q ↦ none_possible (newest (take n made)) stall c (subst (λ k. IsPossibleBy (newest (take k made)) (choice_view c)) q s.possible)
       | inr l ↦
           let w = at_within made m c s.at in
           let x = there made n c (omega arith) in

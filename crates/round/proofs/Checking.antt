@@ -1,44 +1,44 @@
--- A check goes on to the next group, or gives up.
+-- A check continues to the next group, or gives up.
 use Rattle.std.proofs.Common.{◌≡◌, ◌≢◌, inl, inr, ℕ, ◌+◌, ◌<◌, ◌≤◌, zero, suc, true, false, nat_lt, List, [], ◌∷◌, ◌++◌, length, take, Option, Some, refl, sym, ◌∙◌, ap, subst, arith, add-one}
 use Rattle.indexmap.specs.IndexMap.{Updates}
 use Rattle.std.specs.declared.alloc.Global.{Global}
 use Rattle.std.specs.declared.vec.Vec.{Vec}
-use Rattle.evaluation.specs.Value.{In, first, after, IsMember}
-use Rattle.evaluation.specs.Reply.{Reply}
-use Rattle.evaluation.specs.Graph.{Record, Differs}
-use Rattle.evaluation.specs.Choices.{Choice}
-use Rattle.evaluation.specs.Choices as choices
-use Rattle.evaluation.specs.States.{HasBacks}
-use Rattle.evaluation.proofs.Moves.{alike}
-use Rattle.evaluation.specs.Journal.{RunIsJustified, dependency_differs}
+use Rattle.engine_semantics.specs.Value.{In, first, after, IsMember}
+use Rattle.engine_semantics.specs.Reply.{Reply}
+use Rattle.engine_semantics.specs.Graph.{Record, Differs}
+use Rattle.engine_semantics.specs.Choices.{Choice}
+use Rattle.engine_semantics.specs.Choices as choices
+use Rattle.engine_semantics.specs.States.{HasBacks}
+use Rattle.engine_semantics.proofs.Moves.{alike}
+use Rattle.engine_semantics.specs.Journal.{RunIsJustified, dependency_differs}
 use Rattle.keys.specs.Cycles.{cycle}
 use Rattle.keys.specs.Keys.{key_eq}
 use Rattle.keys.specs.declared.key.Key.{Key}
 use Rattle.keys.specs.declared.value.Value.{Value}
 use Rattle.node.specs.Graphs.{GraphView, record_at, IsTouched}
 use Rattle.node.proofs.Lists.{some_is, decide_key, in_left, in_right}
-use Rattle.open_nodes.proofs.Lookups.{other_key}
-use Rattle.open_nodes.specs.Nodes.{node_at, groups_of, pending, IsClean, IsStill, IsCurrent, Stands, IsWhole, AreOut}
-use Rattle.open_nodes.specs.Steps.{Pends, Readies, HasPhase, SameRuns}
-use Rattle.open_nodes.specs.Truths.{IsNext, Past, IsTrueOf, Asks, nothing, IsDoing, IsCheck, TellOut, AreUnchanged}
-use Rattle.open_nodes.specs.declared.run.Run.{Run}
-use Rattle.open_nodes.specs.declared.table.Node.{Node}
-use Rattle.open_nodes.specs.declared.table.Phase.{Phase}
-use Rattle.open_nodes.specs.declared.table.Phase.TheVariants as phase
-use Rattle.open_nodes.specs.declared.table.Table.{Table}
-use Rattle.open_nodes.proofs.Wholes.{node_changes}
-use Rattle.open_nodes.specs.TurnCounts.{MakesNone}
-use Rattle.open_nodes.proofs.Counting.{same_asked}
-use Rattle.open_nodes.proofs.Followings.{grows_none}
-use Rattle.open_nodes.proofs.Settlings.{truth_changes}
+use Rattle.round_nodes.proofs.Lookups.{other_key}
+use Rattle.round_nodes.specs.Nodes.{node_at, groups_of, pending, IsClean, IsStill, IsCurrent, Stands, IsWhole, AreOut}
+use Rattle.round_nodes.specs.Steps.{Pends, Readies, HasPhase, SameRuns}
+use Rattle.round_nodes.specs.Invariants.{IsNext, Past, IsTrueOf, Asks, nothing, IsDoing, IsCheck, TellOut, AreUnchanged}
+use Rattle.round_nodes.specs.declared.run.Run.{Run}
+use Rattle.round_nodes.specs.declared.table.Node.{Node}
+use Rattle.round_nodes.specs.declared.table.Phase.{Phase}
+use Rattle.round_nodes.specs.declared.table.Phase.TheVariants as phase
+use Rattle.round_nodes.specs.declared.table.OpenNodes.{OpenNodes}
+use Rattle.round_nodes.proofs.Wholes.{node_changes}
+use Rattle.round_nodes.specs.TurnCounts.{MakesNoTurn}
+use Rattle.round_nodes.proofs.Counting.{same_asked}
+use Rattle.round_nodes.proofs.Followings.{grows_none}
+use Rattle.round_nodes.proofs.Settlings.{truth_changes}
 use Rattle.node.specs.Comparisons.{has_changed, Compares}
 use Rattle.node.specs.declared.comparison.Comparison.{Comparison}
 use Rattle.node.specs.declared.comparison.Comparison.TheVariants as compared
-use Rattle.open_nodes.specs.Members.{IsMissing}
+use Rattle.round_nodes.specs.Members.{IsMissing}
 use Rattle.round.proofs.Comparing.{IsNextGroup, HasChanged, HasNotChanged, over_is, waits_is, differs_is, passes_is}
-use Rattle.round.specs.Moves.{KeepsWanted}
+use Rattle.round.specs.Moves.{KeepsOpened}
 use Rattle.round.specs.Looks.{IsAwaiting, IsChecking, HasPassed}
-use Rattle.open_nodes.proofs.Grouping.{snoc_in}
+use Rattle.round_nodes.proofs.Grouping.{snoc_in}
 use Rattle.round.proofs.Wanting.{StaysTrue, wanted_set}
 use Rattle.round.proofs.Confirming.{standing}
 use Rattle.round.proofs.Reaching.{rest_is, current_wants}
@@ -51,7 +51,7 @@ next_taken zero (x ∷ gs) g rest e = let q : x ≡ g = cc in ap (λ y. y ∷ []
 next_taken (suc i) [] g rest e = cc
 next_taken (suc i) (x ∷ gs) g rest e = let q : gs ≡ take i gs ++ g ∷ rest = cc in ap (λ y. x ∷ y) (next_taken i gs g rest q)
 
-module _ (graph : GraphView) (before later : Table) (k : Key) (at : ℕ) (c : IsChecking before k at)
+module _ (graph : GraphView) (before later : OpenNodes) (k : Key) (at : ℕ) (c : IsChecking before k at)
     (w : IsWhole (record_at graph) before.nodes before.ready.keys (k ∷ pending before)) where
   abbrev n : Node
   n = c.0
@@ -67,7 +67,7 @@ module _ (graph : GraphView) (before later : Table) (k : Key) (at : ℕ) (c : Is
   compared_there found f = subst (λ o. Compares (record_at graph) o at found) stand.1 f
 
   -- all groups are passed
-  pub passes_all : (found : Comparison) → Compares (record_at graph) (record_at graph k) at found → found ≡ compared.Over → HasPassed graph before k
+  pub passes_all : (found : Comparison) → Compares (record_at graph) (record_at graph k) at found → found ≡ compared.Unchanged → HasPassed graph before k
   passes_all found f e = record {
     node = n;
     there = c.1;
@@ -80,13 +80,13 @@ module _ (graph : GraphView) (before later : Table) (k : Key) (at : ℕ) (c : Is
   pub awaits : (missing : List Key) → (group : List Key) × IsNextGroup r at group × IsMissing (record_at graph) group missing → IsAwaiting graph before k missing
   awaits missing f = record { node = n; there = c.1; group = f.0; current = subst (λ p. IsCurrent (record_at graph) k (groups_of n) p f.0) (sym c.2) (r, f.1.0, stand.1, f.1.1); of_group = f.2 }
 
-  pub awaits_found : (found : Comparison) → Compares (record_at graph) (record_at graph k) at found → (missing : Vec Key Global) → found ≡ compared.Waits missing → (slice : List Key) → slice ≡ missing.items → IsAwaiting graph before k slice
+  pub awaits_found : (found : Comparison) → Compares (record_at graph) (record_at graph k) at found → (missing : Vec Key Global) → found ≡ compared.NeedsMembers missing → (slice : List Key) → slice ≡ missing.items → IsAwaiting graph before k slice
   awaits_found found f missing e slice q = let y = waits_is (record_at graph) r at found (compared_there found f) missing e in awaits slice (y.0, y.1, subst (IsMissing (record_at graph) y.0) (sym q) y.2)
 
-  pub differs_found : (found : Comparison) → Compares (record_at graph) (record_at graph k) at found → found ≡ compared.Differs → (group : List Key) × IsNextGroup r at group × HasChanged (record_at graph) group r.settled_at
+  pub differs_found : (found : Comparison) → Compares (record_at graph) (record_at graph k) at found → found ≡ compared.Changed → (group : List Key) × IsNextGroup r at group × HasChanged (record_at graph) group r.settled_at
   differs_found found f e = differs_is (record_at graph) r at found (compared_there found f) e
 
-  pub passes_found : (found : Comparison) → Compares (record_at graph) (record_at graph k) at found → (next : ℕ) → found ≡ compared.Passes next
+  pub passes_found : (found : Comparison) → Compares (record_at graph) (record_at graph k) at found → (next : ℕ) → found ≡ compared.NextGroup next
       → ((group : List Key) × IsNextGroup r at group × HasNotChanged (record_at graph) group r.settled_at) × (next ≡ at + 1)
   passes_found found f next e = passes_is (record_at graph) r at found (compared_there found f) next e
 
@@ -103,8 +103,8 @@ module _ (graph : GraphView) (before later : Table) (k : Key) (at : ℕ) (c : Is
   tail_in {j = j} (first {xs = ys}) e d = let q : k ≡ j = cc in absurd (d q)
   tail_in {j = j} (after {xs = ys} i) e d = let q : ys ≡ pending before = cc in subst (In j) q i
 
-  same_watchers : (m : Node) (x : Key) → node_at before.nodes k ≡ Some m → In x m.watchers.items → In x n.watchers.items
-  same_watchers m x e i = subst (λ (y : Node). In x y.watchers.items) (some_is (sym e ∙ c.1)) i
+  same_watchers : (m : Node) (x : Key) → node_at before.nodes k ≡ Some m → In x m.waiters.items → In x n.waiters.items
+  same_watchers m x e i = subst (λ (y : Node). In x y.waiters.items) (some_is (sym e ∙ c.1)) i
 
   out_on : (p : _) → p ≢ phase.Out → HasPhase before.nodes later.nodes k p → (keys : List Key) → AreOut before.nodes keys → AreOut later.nodes keys
   out_on p d h keys o j m e f = elim (decide_key k j) [
@@ -112,10 +112,10 @@ module _ (graph : GraphView) (before later : Table) (k : Key) (at : ℕ) (c : Is
     | inr x ↦ o j m (sym (other_key before.nodes later.nodes k (Some (record n { phase = p })) (u p h) j x) ∙ e) f
   ]
 
-  none_more : (p : Phase) → HasPhase before.nodes later.nodes k p → SameRuns before later → MakesNone before later
+  none_more : (p : Phase) → HasPhase before.nodes later.nodes k p → SameRuns before later → MakesNoTurn before later
   none_more p h runs = same_asked before later k n (record n { phase = p }) c.1 (u p h) refl runs
 
-  pub set_keeps : (p : Phase) → HasPhase before.nodes later.nodes k p → KeepsWanted graph graph before later
+  pub set_keeps : (p : Phase) → HasPhase before.nodes later.nodes k p → KeepsOpened graph graph before later
   set_keeps p h = wanted_set graph before later k (record n { phase = p }) (u p h)
 
   regroup : (p : List (List Key)) (g : List Key) (q : List (List Key)) → p ++ g ∷ q ≡ (p ++ g ∷ []) ++ q
@@ -166,7 +166,7 @@ module _ (graph : GraphView) (before later : Table) (k : Key) (at : ℕ) (c : Is
     pub passed_out : (keys : List Key) → AreOut before.nodes keys → AreOut later.nodes keys
     passed_out = out_on (phase.Checking (at + 1)) (λ e. cc) h
 
-    pub passed_turns : MakesNone before later
+    pub passed_turns : MakesNoTurn before later
     passed_turns = none_more (phase.Checking (at + 1)) h pends.runs
 
     pub passed_true : (read : Key → Option Value) → StaysTrue read graph graph before later
@@ -227,7 +227,7 @@ module _ (graph : GraphView) (before later : Table) (k : Key) (at : ℕ) (c : Is
     in_groups : In found.0 r.groups
     in_groups = subst (In found.0) (sym found.1.1) (in_right (take at r.groups) first)
 
-    pub rerun_turns : MakesNone before later
+    pub rerun_turns : MakesNoTurn before later
     rerun_turns = none_more phase.Running h readies.runs
 
     pub rerun_true : (read : Key → Option Value) → StaysTrue read graph graph before later

@@ -1,13 +1,13 @@
 -- Which keys are ready tells exactly whose next turn the choices allow to be handed out.
 use Rattle.std.proofs.Common.{◌≡◌, ◌≢◌, ◌⊎◌, inl, inr, ℕ, suc, ◌≤◌, true, false, List, [], ◌∷◌, ◌++◌, length, map, take, Option, Some, None, refl, sym, ◌∙◌, ap, subst, arith, append-nil, length-append}
-use Rattle.evaluation.specs.Reply.{Reply, Ask, Done}
-use Rattle.evaluation.specs.Value.{Grounded, AllGrounded, In, first, after, IsMember}
-use Rattle.evaluation.specs.Value as value
-use Rattle.evaluation.specs.Graph.{Record}
-use Rattle.evaluation.specs.Choices.{Choice, Backs, IsOut, Comes, stay, asks, Changed, member, by_turn, Runs, Settled, CanHand}
-use Rattle.evaluation.specs.Choices as choices
-use Rattle.evaluation.proofs.Deciding.{fewer, at_most, two_splits, in_middle, length_snoc, along, not_past, same_end, come_grounded, come_on, never_both}
-use Rattle.evaluation.proofs.Least.{Keeping, least_runs, least_settled}
+use Rattle.engine_semantics.specs.Reply.{Reply, Ask, Done}
+use Rattle.engine_semantics.specs.Value.{Grounded, AllGrounded, In, first, after, IsMember}
+use Rattle.engine_semantics.specs.Value as value
+use Rattle.engine_semantics.specs.Graph.{Record}
+use Rattle.engine_semantics.specs.Choices.{Choice, Backs, IsOut, Comes, stay, asks, Changed, member, by_turn, Runs, Settled, CanHand}
+use Rattle.engine_semantics.specs.Choices as choices
+use Rattle.engine_semantics.proofs.Deciding.{fewer, at_most, two_splits, in_middle, length_snoc, along, not_past, same_end, come_grounded, come_on, never_both}
+use Rattle.engine_semantics.proofs.Least.{Keeping, least_runs, least_settled}
 use Rattle.keys.specs.Cycles.{cycle}
 use Rattle.keys.proofs.CycleLaws.{turned}
 use Rattle.keys.specs.Jobs.{JobView}
@@ -15,19 +15,19 @@ use Rattle.keys.specs.declared.key.Key.{Key}
 use Rattle.keys.specs.declared.value.Value.{Value}
 use Rattle.node.specs.Graphs.{GraphView, record_at}
 use Rattle.node.proofs.Lists.{some_is, none_some, true_false, in_left, in_right}
-use Rattle.open_nodes.specs.Nodes.{node_at, groups_of, IsClean, IsPlain, IsCurrent, IsBlocked, Stands, KeepsBack}
-use Rattle.open_nodes.specs.Truths.{IsNext, Past, IsWantedBy, AreUnchanged, HasStopped, HasBegun, IsRun, IsCheck, IsDoing, TellOut, IsOpenTruly, IsRunToEnd, HasEnded, by_read, by_check, by_turns, IsTrueOf}
-use Rattle.open_nodes.specs.declared.table.Node.{Node}
-use Rattle.open_nodes.specs.declared.table.Phase.{Phase}
-use Rattle.open_nodes.specs.declared.table.Phase.TheVariants as phase
-use Rattle.open_nodes.proofs.Settlings.{plain_grounded, cycle_ungrounded}
-use Rattle.open_nodes.proofs.Wholes.{unsettled_not_clean}
-use Rattle.round.specs.Moves.{IsWanted}
+use Rattle.round_nodes.specs.Nodes.{node_at, groups_of, IsClean, IsPlain, IsCurrent, IsBlocked, Stands, KeepsBack}
+use Rattle.round_nodes.specs.Invariants.{IsNext, Past, IsWantedBy, AreUnchanged, HasStopped, HasBegun, IsRun, IsCheck, IsDoing, TellOut, IsOpenTruly, IsRunToEnd, HasEnded, by_read, by_check, by_turns, IsTrueOf}
+use Rattle.round_nodes.specs.declared.table.Node.{Node}
+use Rattle.round_nodes.specs.declared.table.Phase.{Phase}
+use Rattle.round_nodes.specs.declared.table.Phase.TheVariants as phase
+use Rattle.round_nodes.proofs.Settlings.{plain_grounded, cycle_ungrounded}
+use Rattle.round_nodes.proofs.Wholes.{unsettled_not_clean}
+use Rattle.round.specs.Moves.{IsOpenOrSettled}
 use Rattle.round.specs.Choosing.{IsJobOut}
-use Rattle.open_nodes.specs.Members.{plain_value, all_values, AreAnswers}
-use Rattle.round.specs.Rounds.{IsBeside, IsOfJobOut, Standing}
+use Rattle.round_nodes.specs.Members.{plain_value, all_values, AreAnswers}
+use Rattle.round.specs.Rounds.{IsBeside, IsOfJobOut, RoundView}
 use Rattle.round.proofs.Ending.{asks_come, plain_values}
-use Rattle.open_nodes.proofs.Grouping.{snoc_in, plain_has}
+use Rattle.round_nodes.proofs.Grouping.{snoc_in, plain_has}
 use Rattle.round.proofs.NextTurns.{asks_comes}
 use Rattle.round.proofs.Reaching.{asks_last}
 use Rattle.round.proofs.Seeking.{settled_by}
@@ -48,13 +48,13 @@ regroup : (p : List (List Key)) (g : List Key) (rest : List (List Key)) → p ++
 regroup [] g rest = refl
 regroup (x ∷ p) g rest = ap (λ y. x ∷ y) (regroup p g rest)
 
-module _ (next : Key → List Value → Reply Key Value) (read : Key → Option Value) (laws : IsNext next) (past : Past read) (cs : List (Choice Key)) (graph : GraphView) (s : Standing)
+module _ (next : Key → List Value → Reply Key Value) (read : Key → Option Value) (laws : IsNext next) (past : Past read) (cs : List (Choice Key)) (graph : GraphView) (s : RoundView)
     (b : IsBeside graph s) (roots : past.roots ≡ s.roots) (t : IsTrueOf next read past cs graph s.table.nodes s.table.runs.items) where
   abbrev records : Key → Option (Record Key Value)
   records = record_at past.entry
 
   abbrev W : Key → Type 0
-  W k = IsWanted graph s.table k
+  W k = IsOpenOrSettled graph s.table k
 
   abbrev S : Key → Type 0
   S k = IsClean (record_at graph) k
@@ -284,7 +284,7 @@ module _ (next : Key → List Value → Reply Key Value) (read : Key → Option 
           ]
   end_settled k p a v (over x c) h bs e = c
 
-  -- the state keeps the rules by which a round goes on without a choice
+  -- the state keeps the rules by which a round continues without a choice
   keeping : Keeping next cycle read records past.roots cs W C R S
   keeping = record {
     roots_wanted = λ k m. b.wanted k (subst (In k) roots m);
@@ -311,7 +311,7 @@ module _ (next : Key → List Value → Reply Key Value) (read : Key → Option 
   pub settled_clean : (k : Key) → Settled next cycle read records past.roots cs k → S k
   settled_clean k x = least_settled next cycle read records past.roots cs _ _ _ _ keeping x
 
-  -- the members of the groups that turns asked, which were taken back, are wanted
+  -- the members of the groups that turns asked for, which were taken back, are opened
   members_wanted : {k : Key} → Runs next cycle read records past.roots cs k → {a c : List Value} (p : List (List Key)) {q : List (List Key)} → Comes next cycle read k [] p a → Comes next cycle read k a q c → Backs k (length (p ++ q)) cs
       → (j : Key) → IsMember j q → IsWantedBy next read past cs j
   members_wanted r p h stay bs j m = elim m.1 [ ]

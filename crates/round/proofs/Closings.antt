@@ -1,45 +1,45 @@
--- A stall is closed: none of its nodes is grounded, and each is settled with the loop that it shows.
+-- A stall is closed: none of its nodes is grounded, and each is settled with the cycle that it shows.
 use Rattle.std.proofs.Common.{◌≡◌, ◌≢◌, ◌⊎◌, inl, inr, true, false, List, [], ◌∷◌, ◌++◌, length, map, Option, Some, None, refl, sym, ◌∙◌, ap, subst}
 use Rattle.std.specs.Arc.{arc_value}
 use Rattle.std.specs.List.{AllByRecursion}
-use Rattle.evaluation.specs.Reply.{Reply}
-use Rattle.evaluation.specs.Value.{Grounded, AllGrounded, IsUngrounded, First, at_head, further, Walk, stay, step, Cyclic, Settles, leaf, run, closed, In, first, after, IsMember, AllDiffer}
-use Rattle.evaluation.specs.Value as value
-use Rattle.evaluation.specs.Graph.{Record}
-use Rattle.evaluation.specs.Choices.{Choice}
-use Rattle.evaluation.specs.Journal.{RunIsJustified}
-use Rattle.evaluation.proofs.Stall.{never, stops_after, walk_on}
-use Rattle.evaluation.proofs.ClosedSets.{stops_map}
+use Rattle.engine_semantics.specs.Reply.{Reply}
+use Rattle.engine_semantics.specs.Value.{Grounded, AllGrounded, IsUngrounded, First, at_head, further, Walk, stay, step, Cyclic, Settles, leaf, run, closed, In, first, after, IsMember, AllDiffer}
+use Rattle.engine_semantics.specs.Value as value
+use Rattle.engine_semantics.specs.Graph.{Record}
+use Rattle.engine_semantics.specs.Choices.{Choice}
+use Rattle.engine_semantics.specs.Journal.{RunIsJustified}
+use Rattle.engine_semantics.proofs.Stall.{never, stops_after, walk_on}
+use Rattle.engine_semantics.proofs.ClosedSets.{stops_map}
 use Rattle.keys.specs.Cycles.{cycle}
 use Rattle.keys.specs.Turns.{NoCycle}
 use Rattle.keys.specs.declared.key.Key.{Key}
 use Rattle.keys.specs.declared.value.Value.{Value}
-use Rattle.node.specs.Batches.{asked, keys_of, SetsAll}
+use Rattle.node.specs.Batches.{entry_groups, keys_of, SetsAll}
 use Rattle.node.specs.Graphs.{GraphView, record_at, present, IsTouched}
 use Rattle.node.specs.Records.{items_of}
-use Rattle.node.specs.Laws.{IsLawfulFor, BatchKeepsLawful}
-use Rattle.node.specs.Writes.{stored}
+use Rattle.node.specs.Laws.{IsConsistentFor, BatchKeepsLawful}
+use Rattle.node.specs.Writes.{settled_record}
 use Rattle.node.specs.declared.entry.Entry.{Entry}
 use Rattle.node.proofs.Lists.{some_is, none_some, true_false, in_split, in_left, in_right}
-use Rattle.open_nodes.specs.Nodes.{Records, node_at, groups_of, IsOpen, IsUnsettled, IsPlain, Stands}
-use Rattle.open_nodes.specs.Truths.{IsNext, Past, IsSince, IsAfter, IsDoing, IsOpenTruly, IsRunOf, run_keys, IsTold, AreBehind, AreClosedLast, TellsChange, IsTrueOf, IsTrueAtEnd}
-use Rattle.open_nodes.specs.declared.run.Run.{Run}
-use Rattle.open_nodes.specs.declared.table.Node.{Node}
-use Rattle.open_nodes.specs.declared.table.Phase.{Phase}
-use Rattle.open_nodes.specs.declared.table.Phase.TheVariants as phase
-use Rattle.open_nodes.specs.declared.table.Table.{Table}
-use Rattle.open_nodes.proofs.Counting.{decide_in}
-use Rattle.open_nodes.proofs.Orders.{split_join}
-use Rattle.open_nodes.proofs.Settlings.{now_is, clean_settles, member_clean, plain_grounded, cycle_ungrounded, in_map}
-use Rattle.open_nodes.proofs.Wholes.{unsettled_not_clean}
+use Rattle.round_nodes.specs.Nodes.{Records, node_at, groups_of, IsOpen, IsUnsettled, IsPlain, Stands}
+use Rattle.round_nodes.specs.Invariants.{IsNext, Past, IsSince, IsAfter, IsDoing, IsOpenTruly, IsRunOf, run_keys, IsLogged, AreBehind, AreClosedLast, TellsChange, IsTrueOf, IsTrueAtEnd}
+use Rattle.round_nodes.specs.declared.run.Run.{Run}
+use Rattle.round_nodes.specs.declared.table.Node.{Node}
+use Rattle.round_nodes.specs.declared.table.Phase.{Phase}
+use Rattle.round_nodes.specs.declared.table.Phase.TheVariants as phase
+use Rattle.round_nodes.specs.declared.table.OpenNodes.{OpenNodes}
+use Rattle.round_nodes.proofs.Counting.{decide_in}
+use Rattle.round_nodes.proofs.Orders.{split_join}
+use Rattle.round_nodes.proofs.Settlings.{now_is, clean_settles, member_clean, plain_grounded, cycle_ungrounded, in_map}
+use Rattle.round_nodes.proofs.Wholes.{unsettled_not_clean}
 use Rattle.round.specs.Closing.{HasTurnedBy, HasTurned, stop_at, HasTaken, IsIdle}
-use Rattle.open_nodes.specs.Members.{plain_value}
-use Rattle.round.specs.Moves.{IsWholeNow}
+use Rattle.round_nodes.specs.Members.{plain_value}
+use Rattle.round.specs.Moves.{IsInOrder}
 use Rattle.round.specs.Showing.{Chain, Ends, Shows, IsStall, AreEntries}
 use Rattle.round.specs.Showing as showing
 use Rattle.round.specs.declared.closing.Closing.{Closing}
 use Rattle.round.specs.declared.closing.Stall.{Stall}
-use Rattle.open_nodes.proofs.Grouping.{clean_cycle, items_length}
+use Rattle.round_nodes.proofs.Grouping.{clean_cycle, items_length}
 use Rattle.round.proofs.Seeking.{stored_change}
 use Rattle.round.proofs.Reaching.{AsksAfter, asks_last, check_asks}
 use Rattle.round.proofs.Stalls.{ComesBy, IsStopped, stop_among, stopped, all_closed, has_stop, is_stall}
@@ -80,7 +80,7 @@ map_join : {X Y : Type 0} (f : X → Y) (xs ys : List X) → map f (xs ++ ys) �
 map_join f [] ys = refl
 map_join f (x ∷ xs) ys = ap (λ zs. f x ∷ zs) (map_join f xs ys)
 
-module _ (old : GraphView) (start later : Table) (stall : Stall) (w : IsWholeNow old start) (idle : IsIdle start)
+module _ (old : GraphView) (start later : OpenNodes) (stall : Stall) (w : IsInOrder old start) (idle : IsIdle start)
     (t : HasTaken (record_at old) old.version start later stall) (none : (k : Key) → node_at later.nodes k ≡ None)
     (next : Key → List Value → Reply Key Value) (read : Key → Option Value) (laws : IsNext next) (past : Past read) (cs : List (Choice Key)) (h : IsTrueOf next read past cs old start.nodes start.runs.items) where
   abbrev records : Records
@@ -159,7 +159,7 @@ module _ (old : GraphView) (start later : Table) (stall : Stall) (w : IsWholeNow
       (subst (λ y. value.Stops next read (IsUngrounded next read) k [] (items_of x.0.groups.items) y) same (subst (λ y. value.Stops next read (IsUngrounded next read) y [] (items_of x.0.groups.items) (stopped_of x.0 x.1).stop) x.2 (closed_stops x.0 x.1)))
       (walk_of c)
 
-  -- what it shows is the value of the loop to which its walk comes
+  -- what it shows is the value of the cycle to which its walk comes
   pub shows_cyclic : (k : Key) (v : Value) → ((j : Key) × (stop_at stall.stops k ≡ Some j)) → Shows (stop_at stall.stops) records k v → Cyclic next read cycle k v
   shows_cyclic k v has s = go s.ends
     where
@@ -208,18 +208,18 @@ module _ (old : GraphView) (start later : Table) (stall : Stall) (w : IsWholeNow
     truly : (e : Entry) (i : In e entries) → IsOpenTruly next read past cs old e.key (stopped_of (closing_of e i) (closing_in e i)).node
     truly e i = h.opened e.key (stopped_of (closing_of e i) (closing_in e i)).node (its_open e i)
 
-    settles : (e : Entry) → In e entries → Settles next read cycle e.key (asked e) (arc_value e.value)
+    settles : (e : Entry) → In e entries → Settles next read cycle e.key (entry_groups e) (arc_value e.value)
     settles e i =
         let x = a.each e i in
         let s = stopped_of x.0 x.1 in
-        subst (λ k. Settles next read cycle k (asked e) (arc_value e.value)) (sym x.2) (subst (λ gs. Settles next read cycle x.0.key gs (arc_value e.value)) (sym x.3)
+        subst (λ k. Settles next read cycle k (entry_groups e) (arc_value e.value)) (sym x.2) (subst (λ gs. Settles next read cycle x.0.key gs (arc_value e.value)) (sym x.3)
         (closed (closed_no_leaf x.0 x.1) (closed_stops x.0 x.1) (shows_cyclic x.0.key (arc_value e.value) (s.stop, s.stops_at) (subst (λ k. Shows (stop_at stall.stops) records k (arc_value e.value)) x.2 x.4))))
 
     reads_now : past.reads old.version ≡ read
     reads_now = ap past.reads h.after.version ∙ now_is next read laws past
 
-    lawful : IsLawfulFor next past.reads past.edits new
-    lawful = keeps next past.reads past.edits h.after.lawful (λ e i. subst (λ f. Settles next f cycle e.key (asked e) (arc_value e.value)) (sym reads_now) (settles e i))
+    lawful : IsConsistentFor next past.reads past.edits new
+    lawful = keeps next past.reads past.edits h.after.lawful (λ e i. subst (λ f. Settles next f cycle e.key (entry_groups e) (arc_value e.value)) (sym reads_now) (settles e i))
 
     entry_of : (k : Key) → In k (keys_of entries) → (e : Entry) × In e entries × (e.key ≡ k)
     entry_of k i = in_map (λ (e : Entry). e.key) entries i
@@ -234,7 +234,7 @@ module _ (old : GraphView) (start later : Table) (stall : Stall) (w : IsWholeNow
     clean_stays j s e d = sets.others j (not_entry j s e d) ∙ e
 
     abbrev record_of : Entry → Record Key Value
-    record_of e = stored (records e.key) (arc_value e.value) (asked e) old.version
+    record_of e = settled_record (records e.key) (arc_value e.value) (entry_groups e) old.version
 
     pub closed_after : IsAfter next read past new
     closed_after = record {
@@ -263,7 +263,7 @@ module _ (old : GraphView) (start later : Table) (stall : Stall) (w : IsWholeNow
     run_stays x o = record { of_key = o.of_key; recorded = clean_stays x.key o.of_key o.recorded o.clean; clean = o.clean; version = o.version; item = o.item }
 
     -- the entry of a closed node
-    its_entry : (c : Closing) → In c stall.closing.items → (e : Entry) × In e entries × (e.key ≡ c.key) × (asked e ≡ items_of c.groups.items)
+    its_entry : (c : Closing) → In c stall.closing.items → (e : Entry) × In e entries × (e.key ≡ c.key) × (entry_groups e ≡ items_of c.groups.items)
     its_entry c i =
         let x = entry_of c.key (a.has c i) in
         let y = a.each x.0 x.1 in
@@ -302,11 +302,11 @@ module _ (old : GraphView) (start later : Table) (stall : Stall) (w : IsWholeNow
         let r = t.added_each y.0 y.1 in
         not_entry k o.of_key (ap records (sym x.2) ∙ o.recorded) o.clean (subst (λ z. In z (keys_of entries)) (sym r.same_key ∙ y.2) (a.has r.closed r.among))
 
-    told_more : (j : Key) (r : Record Key Value) → IsTold next read past start.runs.items j r → IsTold next read past all_runs j r
+    told_more : (j : Key) (r : Record Key Value) → IsLogged next read past start.runs.items j r → IsLogged next read past all_runs j r
     told_more j r (inl i) = inl (subst (In j) (sym keys_joined) (in_left (run_keys next read past t.added) i))
     told_more j r (inr o) = inr o
 
-    told_entry : (e : Entry) (i : In e entries) (r : Record Key Value) → IsTold next read past all_runs e.key r
+    told_entry : (e : Entry) (i : In e entries) (r : Record Key Value) → IsLogged next read past all_runs e.key r
     told_entry e i r = go n.phase refl (w.holds e.key n (its_open e i)).1
       where
         n : Node
@@ -315,11 +315,11 @@ module _ (old : GraphView) (start later : Table) (stall : Stall) (w : IsWholeNow
         ungrounded_entry : IsUngrounded next read e.key
         ungrounded_entry = subst (IsUngrounded next read) (sym (key_is e i)) (closed_ungrounded (closing_of e i) (closing_in e i))
 
-        has_run : HasTurned n true → IsTold next read past all_runs e.key r
+        has_run : HasTurned n true → IsLogged next read past all_runs e.key r
         has_run q = inl (subst (In e.key) (sym keys_joined) (in_right (run_keys next read past start.runs.items)
             (subst (λ k. In k (run_keys next read past t.added)) (sym (key_is e i)) (t.added_all (closing_of e i) (closing_in e i) n (stopped_of (closing_of e i) (closing_in e i)).there q))))
 
-        go : (p : Phase) → n.phase ≡ p → Stands records e.key (groups_of n) p → IsTold next read past all_runs e.key r
+        go : (p : Phase) → n.phase ≡ p → Stands records e.key (groups_of n) p → IsLogged next read past all_runs e.key r
         go (phase.Checking at) q s = inr (s.0, sym (truly e i).same ∙ s.1, inr ungrounded_entry, λ v l. absurd (none_some (sym (truly e i).no_leaf ∙ l)))
         go phase.Running q s = has_run (subst (λ p. HasTurnedBy p true) (sym q) refl)
         go phase.Out q s = has_run (subst (λ p. HasTurnedBy p true) (sym q) refl)
@@ -372,7 +372,7 @@ module _ (old : GraphView) (start later : Table) (stall : Stall) (w : IsWholeNow
     closed_change : (k : Key) → TellsChange next read past new k
     closed_change k = elim (decide_in k (keys_of entries)) [
       | inl i ↦ let x = entry_of k i in subst (TellsChange next read past new) x.2
-          (stored_change next read laws past cs old start.nodes start.runs.items h new x.0.key (arc_value x.0.value) (asked x.0) (unsettled_entry x.0 x.1) (sets.there x.0 x.1))
+          (stored_change next read laws past cs old start.nodes start.runs.items h new x.0.key (arc_value x.0.value) (entry_groups x.0) (unsettled_entry x.0 x.1) (sets.there x.0 x.1))
       | inr n ↦ elim (h.after.since k) [
         | inl e ↦ λ r s f g.
             let same : s ≡ r = some_is (sym g ∙ (sym e ∙ (sym (sets.others k n) ∙ f))) in
@@ -387,7 +387,7 @@ module _ (old : GraphView) (start later : Table) (stall : Stall) (w : IsWholeNow
       ran = λ x i. elim (in_split i start.runs.items t.added refl) [ inl j ↦ run_stays x (h.ran x j) | inr j ↦ added_run x j ];
       differ = subst AllDiffer (sym keys_joined) (differ_join (run_keys next read past start.runs.items) (run_keys next read past t.added) h.differ t.added_differ runs_apart);
       told = λ j r e. elim (decide_in j (keys_of entries)) [
-        | inl i ↦ let x = entry_of j i in subst (λ k. IsTold next read past all_runs k r) x.2 (told_entry x.0 x.1 r)
+        | inl i ↦ let x = entry_of j i in subst (λ k. IsLogged next read past all_runs k r) x.2 (told_entry x.0 x.1 r)
         | inr n ↦ told_more j r (h.told j r (sym (sets.others j n) ∙ e))
       ];
       behind = closed_behind;

@@ -4,17 +4,17 @@ use Rattle.std.specs.Prelude.{filter, slice_get}
 use Rattle.std.specs.List.{list_any}
 use Rattle.std.specs.declared.alloc.Global.{Global}
 use Rattle.std.specs.declared.vec.Vec.{Vec}
-use Rattle.evaluation.specs.Graph.{Record}
-use Rattle.evaluation.specs.Value.{In, first, after}
+use Rattle.engine_semantics.specs.Graph.{Record}
+use Rattle.engine_semantics.specs.Value.{In, first, after}
 use Rattle.keys.specs.declared.key.Key.{Key}
 use Rattle.keys.specs.declared.value.Value.{Value}
-use Rattle.node.specs.Comparisons.{unsettled, has_changed, ComparesGroup, ComparesNext, Compares}
+use Rattle.node.specs.Comparisons.{unsettled_members, has_changed, ComparesGroup, ComparesNext, Compares}
 use Rattle.node.specs.Writes.{is_clean}
 use Rattle.node.specs.declared.comparison.Comparison.{Comparison}
 use Rattle.node.specs.declared.comparison.Comparison.TheVariants as compared
 use Rattle.node.proofs.Lists.{some_is, none_some, true_false}
-use Rattle.open_nodes.specs.Nodes.{Records, IsClean}
-use Rattle.open_nodes.specs.Members.{IsMissing}
+use Rattle.round_nodes.specs.Nodes.{Records, IsClean}
+use Rattle.round_nodes.specs.Members.{IsMissing}
 
 -- the group after the first ones of a record
 abbrev pub IsNextGroup : Record Key Value → ℕ → List Key → Type 0
@@ -89,21 +89,21 @@ past_end (y ∷ xs) (suc i) e = let h = past_end xs i e in omega (arith, h)
 
 module _ (records : Records) (r : Record Key Value) (at : ℕ) (found : Comparison) (c : Compares records (Some r) at found) where
   -- no group is left
-  pub over_is : found ≡ compared.Over → length r.groups ≤ at
+  pub over_is : found ≡ compared.Unchanged → length r.groups ≤ at
   over_is e = go (slice_get r.groups at) refl
     where
       go : (o : Option (List Key)) → slice_get r.groups at ≡ o → length r.groups ≤ at
       go None q = past_end r.groups at q
       go (Some group) q = absurd (subst (λ f. ComparesGroup records group r.settled_at (at + 1) f) e (subst (λ o. ComparesNext records o r.settled_at (at + 1) found) q c))
 
-  next_group : found ≢ compared.Over → (group : List Key) × IsNextGroup r at group × ComparesGroup records group r.settled_at (at + 1) found
+  next_group : found ≢ compared.Unchanged → (group : List Key) × IsNextGroup r at group × ComparesGroup records group r.settled_at (at + 1) found
   next_group n = go (slice_get r.groups at) refl
     where
       go : (o : Option (List Key)) → slice_get r.groups at ≡ o → (group : List Key) × IsNextGroup r at group × ComparesGroup records group r.settled_at (at + 1) found
       go None q = absurd (n (subst (λ o. ComparesNext records o r.settled_at (at + 1) found) q c))
       go (Some group) q = (group, split_get r.groups at group q, subst (λ o. ComparesNext records o r.settled_at (at + 1) found) q c)
 
-  all_clean : (group : List Key) → unsettled records group ≡ [] → (j : Key) → In j group → IsClean records j
+  all_clean : (group : List Key) → unsettled_members records group ≡ [] → (j : Key) → In j group → IsClean records j
   all_clean group e j i = go (is_clean (records j)) refl
     where
       go : (b : Bool) → is_clean (records j) ≡ b → IsClean records j
@@ -111,7 +111,7 @@ module _ (records : Records) (r : Record Key Value) (at : ℕ) (found : Comparis
       go false q = elim (subst (In j) e (is_kept (λ k. not (is_clean (records k))) i (ap not q))) [ ]
 
   -- members are not settled
-  pub waits_is : (missing : Vec Key Global) → found ≡ compared.Waits missing → (group : List Key) × IsNextGroup r at group × IsMissing records group missing.items
+  pub waits_is : (missing : Vec Key Global) → found ≡ compared.NeedsMembers missing → (group : List Key) × IsNextGroup r at group × IsMissing records group missing.items
   waits_is missing e =
       let g = next_group (λ o. no (sym e ∙ o)) in
       let w = subst (λ f. ComparesGroup records g.0 r.settled_at (at + 1) f) e g.2 in (
@@ -123,29 +123,29 @@ module _ (records : Records) (r : Record Key Value) (at : ℕ) (found : Comparis
         },
       )
     where
-      no : compared.Waits missing ≡ compared.Over → ⊥
+      no : compared.NeedsMembers missing ≡ compared.Unchanged → ⊥
       no o = cc
 
-      by : (group : List Key) → missing.items ≡ unsettled records group → (j : Key) → In j group → (b : Bool) → is_clean (records j) ≡ b → In j missing.items ⊎ IsClean records j
+      by : (group : List Key) → missing.items ≡ unsettled_members records group → (j : Key) → In j group → (b : Bool) → is_clean (records j) ≡ b → In j missing.items ⊎ IsClean records j
       by group w j i true q = inr (clean_is (records j) q)
       by group w j i false q = inl (subst (In j) (sym w) (is_kept (λ k. not (is_clean (records k))) i (ap not q)))
 
   -- a member has changed
-  pub differs_is : found ≡ compared.Differs → (group : List Key) × IsNextGroup r at group × HasChanged records group r.settled_at
+  pub differs_is : found ≡ compared.Changed → (group : List Key) × IsNextGroup r at group × HasChanged records group r.settled_at
   differs_is e =
       let g = next_group (λ o. no (sym e ∙ o)) in
       let w = subst (λ f. ComparesGroup records g.0 r.settled_at (at + 1) f) e g.2 in
       (g.0, g.1, (all_clean g.0 w.0, any_found (λ j. has_changed (records j) r.settled_at) g.0 w.1))
     where
-      no : compared.Differs ≡ compared.Over → ⊥
+      no : compared.Changed ≡ compared.Unchanged → ⊥
       no o = cc
 
   -- none has
-  pub passes_is : (next : ℕ) → found ≡ compared.Passes next → ((group : List Key) × IsNextGroup r at group × HasNotChanged records group r.settled_at) × (next ≡ at + 1)
+  pub passes_is : (next : ℕ) → found ≡ compared.NextGroup next → ((group : List Key) × IsNextGroup r at group × HasNotChanged records group r.settled_at) × (next ≡ at + 1)
   passes_is next e =
       let g = next_group (λ o. no (sym e ∙ o)) in
       let w = subst (λ f. ComparesGroup records g.0 r.settled_at (at + 1) f) e g.2 in
       ((g.0, g.1, (all_clean g.0 w.0, λ j i. none_found (λ k. has_changed (records k) r.settled_at) i w.1)), w.2)
     where
-      no : compared.Passes next ≡ compared.Over → ⊥
+      no : compared.NextGroup next ≡ compared.Unchanged → ⊥
       no o = cc

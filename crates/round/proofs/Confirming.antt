@@ -1,14 +1,14 @@
--- A check goes on, ends or gives up.
+-- A check continues, ends or gives up.
 use Rattle.std.proofs.Common.{◌≡◌, ◌≢◌, inl, inr, ℕ, ◌≤◌, false, List, [], ◌∷◌, ◌++◌, length, take, Option, Some, None, refl, sym, ◌∙◌, ap, subst, arith}
 use Rattle.std.proofs.lemmas.List.{take-append-drop, drop_all}
 use Rattle.std.specs.Prelude.{IsSome}
-use Rattle.evaluation.specs.Value.{In, first, after, IsMember}
-use Rattle.evaluation.specs.Graph.{Record}
-use Rattle.evaluation.specs.Reply.{Reply}
-use Rattle.evaluation.specs.Choices.{Choice}
-use Rattle.evaluation.specs.Choices as choices
-use Rattle.evaluation.proofs.Moves.{alike}
-use Rattle.evaluation.proofs.Settle.{confirm_holds}
+use Rattle.engine_semantics.specs.Value.{In, first, after, IsMember}
+use Rattle.engine_semantics.specs.Graph.{Record}
+use Rattle.engine_semantics.specs.Reply.{Reply}
+use Rattle.engine_semantics.specs.Choices.{Choice}
+use Rattle.engine_semantics.specs.Choices as choices
+use Rattle.engine_semantics.proofs.Moves.{alike}
+use Rattle.engine_semantics.proofs.Settle.{confirm_holds}
 use Rattle.keys.specs.Cycles.{cycle}
 use Rattle.keys.specs.declared.key.Key.{Key}
 use Rattle.keys.specs.declared.value.Value.{Value}
@@ -16,24 +16,24 @@ use Rattle.keys.proofs.CycleLaws.{turned}
 use Rattle.node.specs.Graphs.{GraphView, record_at, Sets, IsTouched, HasCleanMembers}
 use Rattle.node.specs.Laws.{SettlingKeepsLawful}
 use Rattle.node.proofs.Lists.{some_is, none_some, decide_key, in_left, in_right}
-use Rattle.open_nodes.proofs.Lookups.{other_key}
-use Rattle.open_nodes.specs.Nodes.{Nodes, Records, node_at, groups_of, pending, IsClean, IsStill, Stands, Holds, IsWhole, AreOut}
-use Rattle.open_nodes.specs.Steps.{HasLeft}
-use Rattle.open_nodes.specs.Truths.{IsNext, Past, IsTrueOf, IsDoing, TellOut, AreUnchanged, IsSettledTruly, by_check}
-use Rattle.open_nodes.specs.declared.run.Run.{Run}
-use Rattle.open_nodes.specs.declared.table.Node.{Node}
-use Rattle.open_nodes.specs.declared.table.Phase.{Phase}
-use Rattle.open_nodes.specs.declared.table.Phase.TheVariants as phase
-use Rattle.open_nodes.specs.declared.table.Table.{Table}
-use Rattle.open_nodes.proofs.Wholes.{node_settles}
+use Rattle.round_nodes.proofs.Lookups.{other_key}
+use Rattle.round_nodes.specs.Nodes.{Nodes, Records, node_at, groups_of, pending, IsClean, IsStill, Stands, Holds, IsWhole, AreOut}
+use Rattle.round_nodes.specs.Steps.{HasLeft}
+use Rattle.round_nodes.specs.Invariants.{IsNext, Past, IsTrueOf, IsDoing, TellOut, AreUnchanged, IsSettledTruly, by_check}
+use Rattle.round_nodes.specs.declared.run.Run.{Run}
+use Rattle.round_nodes.specs.declared.table.Node.{Node}
+use Rattle.round_nodes.specs.declared.table.Phase.{Phase}
+use Rattle.round_nodes.specs.declared.table.Phase.TheVariants as phase
+use Rattle.round_nodes.specs.declared.table.OpenNodes.{OpenNodes}
+use Rattle.round_nodes.proofs.Wholes.{node_settles}
 use Rattle.std.specs.declared.alloc.Global.{Global}
 use Rattle.std.specs.declared.vec.Vec.{Vec}
 use Rattle.node.specs.Records.{items_of}
-use Rattle.open_nodes.specs.TurnCounts.{turns_of, asked_by, MakesNone}
-use Rattle.open_nodes.proofs.Counting.{counts_none}
-use Rattle.open_nodes.proofs.Followings.{grows_none, unchanged_on}
-use Rattle.open_nodes.proofs.Settlings.{plain, settles_quietly}
-use Rattle.round.specs.Moves.{KeepsWanted}
+use Rattle.round_nodes.specs.TurnCounts.{turns_of, asked_by, MakesNoTurn}
+use Rattle.round_nodes.proofs.Counting.{counts_none}
+use Rattle.round_nodes.proofs.Followings.{grows_none, unchanged_on}
+use Rattle.round_nodes.proofs.Settlings.{plain, settles_quietly}
+use Rattle.round.specs.Moves.{KeepsOpened}
 use Rattle.round.specs.Looks.{HasPassed}
 use Rattle.round.proofs.Wanting.{StaysTrue, wanted_leaves}
 use Rattle.round.proofs.Seeking.{no_rest}
@@ -55,7 +55,7 @@ take_whole {X} xs i h = sym (nil (take i xs)) ∙ ap (λ ys. take i xs ++ ys) (s
     nil [] = refl
     nil (y ∷ ys) = ap (λ z. y ∷ z) (nil ys)
 
-module _ (graph : GraphView) (table : Table) (k : Key) (p : HasPassed graph table k) (w : IsWhole (record_at graph) table.nodes table.ready.keys (k ∷ pending table)) where
+module _ (graph : GraphView) (table : OpenNodes) (k : Key) (p : HasPassed graph table k) (w : IsWhole (record_at graph) table.nodes table.ready.keys (k ∷ pending table)) where
   pub all_still : (r : Record Key Value) → record_at graph k ≡ Some r → (j : Key) → IsMember j r.groups → IsStill (record_at graph) r.settled_at j
   all_still r e j m = passed_members (record_at graph) table.nodes w.holds k p.node p.there p.at p.checking r e j (subst (IsMember j) (sym (take_whole r.groups p.at (p.over r e))) m)
 
@@ -66,7 +66,7 @@ module _ (graph : GraphView) (table : Table) (k : Key) (p : HasPassed graph tabl
   clean_members r s j e m f = let t = all_still r e j m in ap (λ (x : Record Key Value). x.dirty) (some_is (sym f ∙ t.1)) ∙ t.2
 
   -- it is settled
-  module _ (new : GraphView) (later : Table) (left : HasLeft table later k p.node) (version : new.version ≡ graph.version)
+  module _ (new : GraphView) (later : OpenNodes) (left : HasLeft table later k p.node) (version : new.version ≡ graph.version)
       (sets : (r : Record Key Value) → record_at graph k ≡ Some r → Sets (record_at graph) (record_at new) k (record r { settled_at = graph.version; dirty = false })) where
     r : Record Key Value
     r = recorded.0
@@ -89,8 +89,8 @@ module _ (graph : GraphView) (table : Table) (k : Key) (p : HasPassed graph tabl
         subst (λ (xs : List Key). IsWhole (record_at new) later.nodes xs (pending later)) (sym left.ready)
         (node_settles (record_at graph) (record_at new) table.nodes later.nodes k (record recorded.0 { settled_at = graph.version; dirty = false }) s.there refl s.others (w.holds k p.node p.there).0 left.gone others_stay
         table.ready.keys (k ∷ pending table) (pending later) w not_ready
-        (λ j n i. subst (In j) (sym left.pends) (in_left p.node.watchers.items (tail_in i refl n)))
-        (λ m x e i. subst (In x) (sym left.pends) (in_right (pending table) (subst (λ (y : Node). In x y.watchers.items) (some_is (sym e ∙ p.there)) i))))
+        (λ j n i. subst (In j) (sym left.pends) (in_left p.node.waiters.items (tail_in i refl n)))
+        (λ m x e i. subst (In x) (sym left.pends) (in_right (pending table) (subst (λ (y : Node). In x y.waiters.items) (some_is (sym e ∙ p.there)) i))))
 
     pub confirmed_out : (keys : List Key) → AreOut table.nodes keys → AreOut later.nodes keys
     confirmed_out keys o j m e f = elim (decide_key k j) [
@@ -98,13 +98,13 @@ module _ (graph : GraphView) (table : Table) (k : Key) (p : HasPassed graph tabl
       | inr n ↦ o j m (sym (others_stay j n) ∙ e) f
     ]
 
-    pub confirmed_keeps : KeepsWanted graph new table later
+    pub confirmed_keeps : KeepsOpened graph new table later
     confirmed_keeps = let s = sets recorded.0 recorded.1 in wanted_leaves graph new table later k (record recorded.0 { settled_at = graph.version; dirty = false }) s.there refl s.others others_stay
 
     no_groups : groups_of p.node ≡ []
     no_groups = (standing (record_at graph) table.nodes w.holds k p.node p.there p.at p.checking).2
 
-    pub confirmed_turns : MakesNone table later
+    pub confirmed_turns : MakesNoTurn table later
     confirmed_turns = counts_none table later k others_stay
         (let a = ap asked_by left.gone in let b = ap asked_by p.there in let c = no_items p.node.groups.items no_groups in let r = ap turns_of left.runs in omega (arith, a, b, c, r))
       where
@@ -154,5 +154,5 @@ module _ (graph : GraphView) (table : Table) (k : Key) (p : HasPassed graph tabl
             go None q = q
             go (Some y) q = let z = past.leaf_stays v u k y q in absurd (none_some (sym e ∙ z.1))
 
-pub is_recorded : (graph : GraphView) (table : Table) (k : Key) (p : HasPassed graph table k) (w : IsWhole (record_at graph) table.nodes table.ready.keys (k ∷ pending table)) → IsSome (record_at graph k)
+pub is_recorded : (graph : GraphView) (table : OpenNodes) (k : Key) (p : HasPassed graph table k) (w : IsWhole (record_at graph) table.nodes table.ready.keys (k ∷ pending table)) → IsSome (record_at graph k)
 is_recorded graph table k p w = subst (λ o. IsSome o) (sym (recorded graph table k p w).1) refl

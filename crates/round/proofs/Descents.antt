@@ -7,13 +7,13 @@ use Rattle.std.proofs.lemmas.Cmp.{tied_itself}
 use Rattle.std.proofs.lemmas.List.{append-nil}
 use Rattle.std.proofs.lemmas.List.Sorted.{sorted_far, ranks_by}
 use Rattle.indexmap.specs.IndexMap.{Updates}
-use Rattle.evaluation.specs.Value.{In, first, after}
+use Rattle.engine_semantics.specs.Value.{In, first, after}
 use Rattle.keys.specs.Keys.{key_cmp, key_eq}
 use Rattle.keys.specs.declared.key.Key.{Key}
 use Rattle.keys.proofs.KeyLaws.{keys_total, exact_key_eq}
 use Rattle.node.proofs.Lists.{none_some, in_split, in_left, in_right, in_one}
-use Rattle.open_nodes.specs.Nodes.{Nodes, node_at}
-use Rattle.open_nodes.specs.declared.table.Node.{Node}
+use Rattle.round_nodes.specs.Nodes.{Nodes, node_at}
+use Rattle.round_nodes.specs.declared.table.Node.{Node}
 use Rattle.round.specs.Closing.{Descends, IsLeast}
 
 -- a node with its key
@@ -55,7 +55,7 @@ pub pop_descends : (old new : List Entry) (o : Option Entry) → old ≡ new ++ 
 pop_descends old new None e d = subst Descends (e ∙ append-nil new) d
 pop_descends old new (Some p) e d = front_descends new p (subst Descends e d)
 
--- what stands last is found, where none of the others has its key
+-- what is last is found, where none of the others has its key
 last_found : (es : List Entry) (p : Entry) → lookup (key_eq p.0) es ≡ None → lookup (key_eq p.0) (es ++ p ∷ []) ≡ Some p.1
 last_found [] p e = ap (λ b. cond b (Some p.1) None) ((exact_key_eq p.0 p.0).1 refl)
 last_found (x ∷ es) p e = go (key_eq p.0 x.0) refl (last_found es p)
@@ -87,7 +87,7 @@ rises (e ∷ es) f = (
   rises es (λ i j d a b. f (suc i) (suc j) d (omega (arith, a)) (omega (arith, b))),
 )
 
--- a least one behind
+-- a least one after
 descends_snoc : (es : List Entry) (p : Entry) → Descends es → ((x : Entry) → In x es → is_lt (key_cmp x.0 p.0) ≡ false) → Descends (es ++ p ∷ [])
 descends_snoc [] p d h = ((λ x i. elim i [ ]), tt)
 descends_snoc (e ∷ es) p d h = (

@@ -1,11 +1,11 @@
 -- Turns that are handed out, and what they lead to.
 use Rattle.std.proofs.Common.{◌≡◌, ◌≢◌, inl, inr, ℕ, ◌+◌, suc, List, [], ◌∷◌, ◌++◌, length, map, Option, Some, None, refl, sym, ◌∙◌, ap, subst, arith, vec_len}
-use Rattle.evaluation.specs.Reply.{Reply, Ask, Done}
-use Rattle.evaluation.specs.Value.{Grounded, has_run, Turns, ends, asks, AllGrounded, none, one, Settles, run, In, first, after, IsMember}
-use Rattle.evaluation.specs.Choices.{Choice, Back}
-use Rattle.evaluation.specs.Choices as choices
-use Rattle.evaluation.proofs.Moves.{alike_back, has_back, not_out_back}
-use Rattle.evaluation.proofs.Unique.{same_values}
+use Rattle.engine_semantics.specs.Reply.{Reply, Ask, Done}
+use Rattle.engine_semantics.specs.Value.{Grounded, has_run, Turns, ends, asks, AllGrounded, none, one, Settles, run, In, first, after, IsMember}
+use Rattle.engine_semantics.specs.Choices.{Choice, Back}
+use Rattle.engine_semantics.specs.Choices as choices
+use Rattle.engine_semantics.proofs.Moves.{alike_back, has_back, not_out_back}
+use Rattle.engine_semantics.proofs.Unique.{same_values}
 use Rattle.keys.specs.declared.key.Key.{Key}
 use Rattle.keys.specs.declared.value.Value.{Value}
 use Rattle.std.specs.declared.alloc.Global.{Global}
@@ -13,29 +13,29 @@ use Rattle.std.specs.declared.vec.Vec.{Vec}
 use Rattle.keys.specs.Cycles.{cycle}
 use Rattle.node.specs.Graphs.{GraphView, record_at, Sets}
 use Rattle.node.specs.Records.{items_of}
-use Rattle.node.specs.Writes.{stored, HasReadyMembers}
+use Rattle.node.specs.Writes.{settled_record, HasReadyMembers}
 use Rattle.node.specs.Laws.{SettlingKeepsLawful}
 use Rattle.node.proofs.Lists.{some_is, none_some, decide_key, in_left, in_right}
-use Rattle.open_nodes.proofs.Lookups.{other_key}
-use Rattle.open_nodes.specs.Nodes.{Nodes, Records, node_at, groups_of, pending, IsUnsettled, IsClean, IsPlain, Stands, IsWhole, AreOut}
-use Rattle.open_nodes.specs.Steps.{HasLeft, HasNoted}
-use Rattle.open_nodes.specs.Truths.{IsNext, Past, IsAfter, IsTrueOf, IsOpenTruly, IsDoing, IsRun, IsSettledTruly, by_turns, Asks, nothing, last, more}
-use Rattle.open_nodes.specs.declared.run.Run.{Run}
-use Rattle.open_nodes.specs.declared.table.Node.{Node}
-use Rattle.open_nodes.specs.declared.table.Phase.{Phase}
-use Rattle.open_nodes.specs.declared.table.Phase.TheVariants as phase
-use Rattle.open_nodes.specs.declared.table.Table.{Table}
-use Rattle.open_nodes.proofs.Wholes.{node_settles}
-use Rattle.open_nodes.specs.TurnCounts.{turns_of, asked_by, MakesMore}
-use Rattle.open_nodes.proofs.Counting.{counts, turns_snoc}
-use Rattle.open_nodes.proofs.Followings.{Grows, grows_one, begun_on}
-use Rattle.open_nodes.proofs.Settlings.{now_is, plain_grounded, settles_by_run}
-use Rattle.open_nodes.specs.Members.{plain_value, all_values, AreAnswers}
+use Rattle.round_nodes.proofs.Lookups.{other_key}
+use Rattle.round_nodes.specs.Nodes.{Nodes, Records, node_at, groups_of, pending, IsUnsettled, IsClean, IsPlain, Stands, IsWhole, AreOut}
+use Rattle.round_nodes.specs.Steps.{HasLeft, HasNoted}
+use Rattle.round_nodes.specs.Invariants.{IsNext, Past, IsAfter, IsTrueOf, IsOpenTruly, IsDoing, IsRun, IsSettledTruly, by_turns, Asks, nothing, last, more}
+use Rattle.round_nodes.specs.declared.run.Run.{Run}
+use Rattle.round_nodes.specs.declared.table.Node.{Node}
+use Rattle.round_nodes.specs.declared.table.Phase.{Phase}
+use Rattle.round_nodes.specs.declared.table.Phase.TheVariants as phase
+use Rattle.round_nodes.specs.declared.table.OpenNodes.{OpenNodes}
+use Rattle.round_nodes.proofs.Wholes.{node_settles}
+use Rattle.round_nodes.specs.TurnCounts.{turns_of, asked_by, MakesMore}
+use Rattle.round_nodes.proofs.Counting.{counts, turns_snoc}
+use Rattle.round_nodes.proofs.Followings.{Grows, grows_one, begun_on}
+use Rattle.round_nodes.proofs.Settlings.{now_is, plain_grounded, settles_by_run}
+use Rattle.round_nodes.specs.Members.{plain_value, all_values, AreAnswers}
 use Rattle.round.specs.Turning.{IsOutWith}
-use Rattle.round.specs.Moves.{KeepsWanted}
+use Rattle.round.specs.Moves.{KeepsOpened}
 use Rattle.round.proofs.Wanting.{wanted_leaves}
 use Rattle.round.proofs.Seeking.{stored_change}
-use Rattle.open_nodes.proofs.Grouping.{plain_is, items_length}
+use Rattle.round_nodes.proofs.Grouping.{plain_is, items_length}
 
 -- a list of values, cut where a list before it ends
 split_some : {X : Type 0} (p q : List (Option X)) (xs : List X) → p ++ q ≡ map (λ x. Some x) xs → (ys : List X) × (zs : List X) × (xs ≡ ys ++ zs) × (p ≡ map (λ x. Some x) ys) × (q ≡ map (λ x. Some x) zs)
@@ -64,7 +64,7 @@ module _ (next : Key → List Value → Reply Key Value) (read : Key → Option 
   group_grounded (k ∷ group) [] e = cc
   group_grounded (k ∷ group) (v ∷ vs) e = one (grounded k v (cc)) (group_grounded group vs (cc))
 
-  -- turns that asked these groups, with these answers, and then end
+  -- turns that asked for these groups, with these answers, and then end
   pub asks_turns : {k : Key} {a : List Value} {groups : List (List Key)} → Asks next read past k a groups → (answers : List Value) → AreAnswers records groups answers → (v : Value) → next k (a ++ answers) ≡ Done v → Turns next read k a groups v
   asks_turns {k = k} {a = a} nothing answers h v e = ends (ap (next k) (sym (nil_right a) ∙ ap (λ ys. a ++ ys) (sym (no_values answers h))) ∙ e)
   asks_turns {k = k} {a = a} (last {group = g} f) answers h v e =
@@ -107,11 +107,11 @@ plain_values next read laws past graph a k v e = let p = plain_is (record_at gra
     subst (Grounded next read k) p.4 (plain_grounded next read laws past graph a k p.0 p.1 p.2 p.3)
 
 -- a node ends by its turns
-module _ (old new : GraphView) (before mid later : Table) (k : Key) (v : Value) (answers : List Value) (o : IsOutWith old before k answers)
+module _ (old new : GraphView) (before mid later : OpenNodes) (k : Key) (v : Value) (answers : List Value) (o : IsOutWith old before k answers)
     (w : IsWhole (record_at old) before.nodes before.ready.keys (pending before))
     (left : HasLeft before mid k o.node) (at turns : ℕ) (noted : HasNoted mid later (record { key = k; version = at; turns = turns }))
     (version : new.version ≡ old.version)
-    (sets : Sets (record_at old) (record_at new) k (stored (record_at old k) v (groups_of o.node) old.version)) where
+    (sets : Sets (record_at old) (record_at new) k (settled_record (record_at old k) v (groups_of o.node) old.version)) where
   others_stay : (j : Key) → k ≢ j → node_at mid.nodes j ≡ node_at before.nodes j
   others_stay j d = other_key before.nodes mid.nodes k None left.updates j d
 
@@ -126,10 +126,10 @@ module _ (old new : GraphView) (before mid later : Table) (k : Key) (v : Value) 
 
   pub ended_whole : IsWhole (record_at new) later.nodes later.ready.keys (pending later)
   ended_whole = subst (λ (x : Nodes). IsWhole (record_at new) x later.ready.keys (pending later)) (sym noted.nodes) (subst (λ (xs : List Key). IsWhole (record_at new) mid.nodes xs (pending later)) (sym (noted.ready ∙ left.ready))
-      (node_settles (record_at old) (record_at new) before.nodes mid.nodes k (stored (record_at old k) v (groups_of o.node) old.version) sets.there refl sets.others was left.gone others_stay
+      (node_settles (record_at old) (record_at new) before.nodes mid.nodes k (settled_record (record_at old k) v (groups_of o.node) old.version) sets.there refl sets.others was left.gone others_stay
       before.ready.keys (pending before) (pending later) w not_ready
-      (λ j d i. subst (In j) (sym (noted.pends ∙ left.pends)) (in_left o.node.watchers.items i))
-      (λ m x e i. subst (In x) (sym (noted.pends ∙ left.pends)) (in_right (pending before) (subst (λ (y : Node). In x y.watchers.items) (some_is (sym e ∙ o.there)) i)))))
+      (λ j d i. subst (In j) (sym (noted.pends ∙ left.pends)) (in_left o.node.waiters.items i))
+      (λ m x e i. subst (In x) (sym (noted.pends ∙ left.pends)) (in_right (pending before) (subst (λ (y : Node). In x y.waiters.items) (some_is (sym e ∙ o.there)) i)))))
 
   pub ended_back : (keys : List Key) → AreOut before.nodes (k ∷ keys) → AreOut later.nodes keys
   ended_back keys out j m e f = elim (decide_key k j) [
@@ -144,8 +144,8 @@ module _ (old new : GraphView) (before mid later : Table) (k : Key) (v : Value) 
       tail_in {i = i} (first {xs = ys}) q d = let same : k ≡ i = cc in absurd (d same)
       tail_in {i = i} (after {xs = ys} h) q d = let same : ys ≡ keys = cc in subst (In i) same h
 
-  pub ended_keeps : KeepsWanted old new before later
-  ended_keeps = wanted_leaves old new before later k (stored (record_at old k) v (groups_of o.node) old.version) sets.there refl sets.others (λ j d. ap (λ x. node_at x j) noted.nodes ∙ others_stay j d)
+  pub ended_keeps : KeepsOpened old new before later
+  ended_keeps = wanted_leaves old new before later k (settled_record (record_at old k) v (groups_of o.node) old.version) sets.there refl sets.others (λ j d. ap (λ x. node_at x j) noted.nodes ∙ others_stay j d)
 
   pub ended_turns : turns ≡ suc (length (groups_of o.node)) → MakesMore 1 before later
   ended_turns count = counts before later k 1 (λ j d. ap (λ x. node_at x j) noted.nodes ∙ others_stay j d)
@@ -158,7 +158,7 @@ module _ (old new : GraphView) (before mid later : Table) (k : Key) (v : Value) 
       → IsTrueOf next read past cs old before.nodes before.runs.items → IsTrueOf next read past (Back k ∷ cs) new later.nodes later.runs.items
   ended_true now count keeps next ended read laws past cs t =
       subst (λ (x : Nodes). IsTrueOf next read past (Back k ∷ cs) new x later.runs.items) (sym noted.nodes) (subst (λ (x : List Run). IsTrueOf next read past (Back k ∷ cs) new mid.nodes x) (sym (noted.runs ∙ ap (λ (xs : List Run). xs ++ record { key = k; version = at; turns = turns } ∷ []) left.runs))
-      (settles_by_run next read laws past cs (Back k ∷ cs) g old new before.nodes mid.nodes before.runs.items k (stored (record_at old k) v (groups_of o.node) old.version) (λ j d. alike_back (λ e. d (sym e))) t version sets was refl h.reached refl
+      (settles_by_run next read laws past cs (Back k ∷ cs) g old new before.nodes mid.nodes before.runs.items k (settled_record (record_at old k) v (groups_of o.node) old.version) (λ j d. alike_back (λ e. d (sym e))) t version sets was refl h.reached refl
       (keeps next past.reads past.edits t.after.lawful (subst (λ f. Settles next f cycle k (groups_of o.node) v) (sym present_now) (run h.no_leaf its_turns)))
       left.gone others_stay truly (record { key = k; version = at; turns = turns }) refl now (inr (h.no_leaf, does.justified, inl (has_run h.no_leaf its_turns, count)))
       (λ j m. let p = its_members j m in (p.0, p.1, p.2)) (has_run h.no_leaf its_turns)))
@@ -203,14 +203,14 @@ module _ (old new : GraphView) (before mid later : Table) (k : Key) (v : Value) 
       present_now = ap past.reads t.after.version ∙ now_is next read laws past
 
 -- what a call stores where a node ends
-pub end_sets : (old new : GraphView) (k : Key) (v : Value) (gs : List (Vec Key Global)) (groups : List (List Key)) → items_of gs ≡ groups → Sets (record_at old) (record_at new) k (stored (record_at old k) v (items_of gs) old.version) → Sets (record_at old) (record_at new) k (stored (record_at old k) v groups old.version)
-end_sets old new k v gs groups e s = subst (λ (x : List (List Key)). Sets (record_at old) (record_at new) k (stored (record_at old k) v x old.version)) e s
+pub end_sets : (old new : GraphView) (k : Key) (v : Value) (gs : List (Vec Key Global)) (groups : List (List Key)) → items_of gs ≡ groups → Sets (record_at old) (record_at new) k (settled_record (record_at old k) v (items_of gs) old.version) → Sets (record_at old) (record_at new) k (settled_record (record_at old k) v groups old.version)
+end_sets old new k v gs groups e s = subst (λ (x : List (List Key)). Sets (record_at old) (record_at new) k (settled_record (record_at old k) v x old.version)) e s
 
 pub end_keeps : (old new : GraphView) (k : Key) (v : Value) (gs : List (Vec Key Global)) (groups : List (List Key)) → items_of gs ≡ groups → SettlingKeepsLawful old new k v (items_of gs) → SettlingKeepsLawful old new k v groups
 end_keeps old new k v gs groups e s = subst (λ (x : List (List Key)). SettlingKeepsLawful old new k v x) e s
 
 -- the members are settled where its job is out
-pub end_ready : (old : GraphView) (before : Table) (k : Key) (answers : List Value) (o : IsOutWith old before k answers) → IsWhole (record_at old) before.nodes before.ready.keys (pending before) → (gs : List (List Key)) → gs ≡ groups_of o.node → HasReadyMembers (record_at old) k gs
+pub end_ready : (old : GraphView) (before : OpenNodes) (k : Key) (answers : List Value) (o : IsOutWith old before k answers) → IsWhole (record_at old) before.nodes before.ready.keys (pending before) → (gs : List (List Key)) → gs ≡ groups_of o.node → HasReadyMembers (record_at old) k gs
 end_ready old before k answers o w gs e j m =
     let s = subst (λ (p : Phase). Stands (record_at old) k (groups_of o.node) p) o.out (w.holds k o.node o.there).1 in
     let p = s j (subst (IsMember j) e m) in inr (p.0, p.1, p.2)

@@ -2,10 +2,10 @@
 use Rattle.std.proofs.Common.{◌≡◌, ◌≢◌, inl, inr, ℕ, true, List, [], ◌∷◌, Option, Some, None, refl, sym, ◌∙◌, ap, subst}
 use Rattle.std.specs.Bool.{Decides}
 use Rattle.indexmap.specs.IndexMap.{get, Updates}
-use Rattle.evaluation.specs.Reply.{Reply}
-use Rattle.evaluation.specs.Value.{In}
-use Rattle.evaluation.specs.Choices.{Choice, Hand, Back, Drop, Backs, nothing, back, other, IsOut, handed, still, Keeps, taken, kept, Settled, IsStall}
-use Rattle.evaluation.proofs.Moves.{TellsAlike}
+use Rattle.engine_semantics.specs.Reply.{Reply}
+use Rattle.engine_semantics.specs.Value.{In}
+use Rattle.engine_semantics.specs.Choices.{Choice, Hand, Back, Drop, Backs, nothing, back, other, IsOut, handed, still, Keeps, taken, kept, Settled, IsStall}
+use Rattle.engine_semantics.proofs.Moves.{TellsAlike}
 use Rattle.keys.specs.Cycles.{cycle}
 use Rattle.keys.specs.Jobs.{Waits}
 use Rattle.keys.specs.Keys.{key_eq}
@@ -14,20 +14,20 @@ use Rattle.keys.specs.declared.value.Value.{Value}
 use Rattle.node.specs.Edges.{IsAdded, IsRemoved}
 use Rattle.node.specs.Graphs.{GraphView, record_at}
 use Rattle.node.proofs.Lists.{none_some, decide_key}
-use Rattle.open_nodes.proofs.Followings.{grows_one, opened_on, settled_still, untold_on}
-use Rattle.open_nodes.proofs.Lookups.{other_key, same_or_key}
-use Rattle.open_nodes.proofs.Wholes.{unsettled_not_clean}
-use Rattle.open_nodes.specs.Nodes.{Nodes, node_at, IsOpen, IsClean}
-use Rattle.open_nodes.specs.Steps.{HasPhase}
-use Rattle.open_nodes.specs.Truths.{IsNext, Past, IsTrueOf}
-use Rattle.open_nodes.specs.declared.run.Run.{Run}
-use Rattle.open_nodes.specs.declared.table.Node.{Node}
-use Rattle.open_nodes.specs.declared.table.Phase.TheVariants as phase
+use Rattle.round_nodes.proofs.Followings.{grows_one, opened_on, settled_still, untold_on}
+use Rattle.round_nodes.proofs.Lookups.{other_key, same_or_key}
+use Rattle.round_nodes.proofs.Wholes.{unsettled_not_clean}
+use Rattle.round_nodes.specs.Nodes.{Nodes, node_at, IsOpen, IsClean}
+use Rattle.round_nodes.specs.Steps.{HasPhase}
+use Rattle.round_nodes.specs.Invariants.{IsNext, Past, IsTrueOf}
+use Rattle.round_nodes.specs.declared.run.Run.{Run}
+use Rattle.round_nodes.specs.declared.table.Node.{Node}
+use Rattle.round_nodes.specs.declared.table.Phase.TheVariants as phase
 use Rattle.round.specs.Choosing.{Follows, IsPossibleAfter}
 use Rattle.round.specs.Frames.{KeepsSettled}
-use Rattle.round.specs.Moves.{IsWholeNow}
+use Rattle.round.specs.Moves.{IsInOrder}
 use Rattle.round.specs.NodeStates.{NodeStates, ArePaused, HasState, PutsState, TakesOut}
-use Rattle.round.specs.Rounds.{Standing, IsBeside, IsStalled, CanDrop}
+use Rattle.round.specs.Rounds.{RoundView, IsBeside, IsStalled, CanDrop}
 use Rattle.round.proofs.Choosing.{settled_clean, ready_can, can_ready, out_at}
 use Rattle.round.proofs.Resting.{root_open}
 
@@ -64,7 +64,7 @@ out_drop : {K : Type 0} {k j : K} {cs : List (Choice K)} → IsOut k cs → IsOu
 out_drop o = still (λ e. cc) o
 
 -- nothing is kept and nothing is out
-pub follows_none : (s : Standing) (states : NodeStates) → states.entries ≡ [] → s.out ≡ [] → Follows [] s states
+pub follows_none : (s : RoundView) (states : NodeStates) → states.entries ≡ [] → s.out ≡ [] → Follows [] s states
 follows_none s states e o = record {
   states = λ k h. absurd (none_some (sym (empty k) ∙ h.1));
   all_states = λ k h. elim h [ ];
@@ -75,7 +75,7 @@ follows_none s states e o = record {
     empty k = rw e refl
 
 -- a job is handed out
-pub follows_hand : (before later : Standing) (old new : NodeStates) (k : Key) (n : Node) → node_at before.table.nodes k ≡ Some n → HasPhase before.table.nodes later.table.nodes k phase.Out → TakesOut old new k → IsAdded before.out later.out k
+pub follows_hand : (before later : RoundView) (old new : NodeStates) (k : Key) (n : Node) → node_at before.table.nodes k ≡ Some n → HasPhase before.table.nodes later.table.nodes k phase.Out → TakesOut old new k → IsAdded before.out later.out k
     → (cs : List (Choice Key)) → Follows cs before old → Follows (Hand k ∷ cs) later new
 follows_hand before later old new k n there h u added cs f = record {
   states = λ j s. elim (decide_key k j) [
@@ -93,16 +93,16 @@ follows_hand before later old new k n there h u added cs f = record {
     gone j s q = none_some (sym u.0 ∙ ap (get key_eq new) q ∙ s.1)
 
 -- no job was handed out
-pub follows_still : (before later : Standing) (old new : NodeStates) → later ≡ before → ((k : Key) → get key_eq new k ≡ get key_eq old k) → (cs : List (Choice Key)) → Follows cs before old → Follows cs later new
+pub follows_still : (before later : RoundView) (old new : NodeStates) → later ≡ before → ((k : Key) → get key_eq new k ≡ get key_eq old k) → (cs : List (Choice Key)) → Follows cs before old → Follows cs later new
 follows_still before later old new e same cs f = record {
   states = λ j s. f.states j (s.0, sym (same j) ∙ s.1);
-  all_states = λ j x o. let z = f.all_states j x (o.0, ap (λ (y : Standing). node_at y.table.nodes j) (sym e) ∙ o.1) in (z.0, same j ∙ z.1);
-  out = λ j i. f.out j (subst (λ (y : Standing). In j y.out) e i);
+  all_states = λ j x o. let z = f.all_states j x (o.0, ap (λ (y : RoundView). node_at y.table.nodes j) (sym e) ∙ o.1) in (z.0, same j ∙ z.1);
+  out = λ j i. f.out j (subst (λ (y : RoundView). In j y.out) e i);
 }
 
 -- a turn comes back
-module _ (next : Key → List Value → Reply Key Value) (read : Key → Option Value) (laws : IsNext next) (past : Past read) (cs : List (Choice Key)) (old new : GraphView) (before later : Standing) (k : Key)
-    (settled_stays : KeepsSettled old new) (whole : IsWholeNow new later.table) (t : IsTrueOf next read past cs old before.table.nodes before.table.runs.items) where
+module _ (next : Key → List Value → Reply Key Value) (read : Key → Option Value) (laws : IsNext next) (past : Past read) (cs : List (Choice Key)) (old new : GraphView) (before later : RoundView) (k : Key)
+    (settled_stays : KeepsSettled old new) (whole : IsInOrder new later.table) (t : IsTrueOf next read past cs old before.table.nodes before.table.runs.items) where
   clean_closed : (j : Key) → IsClean (record_at new) j → IsOpen later.table.nodes j → ⊥
   clean_closed j c o = unsettled_not_clean (record_at new j) c.0 (whole.holds j o.0 o.1).0 c.1 c.2
 
@@ -144,7 +144,7 @@ module _ (next : Key → List Value → Reply Key Value) (read : Key → Option 
       own None e c j q o = absurd (clean_closed j (subst (IsClean (record_at new)) q (c refl)) o)
 
 -- a state is dropped
-pub follows_drop : (s : Standing) (old new : NodeStates) (k : Key) → Updates key_eq old new k None → (cs : List (Choice Key)) → Follows cs s old → Follows (Drop k ∷ cs) s new
+pub follows_drop : (s : RoundView) (old new : NodeStates) (k : Key) → Updates key_eq old new k None → (cs : List (Choice Key)) → Follows cs s old → Follows (Drop k ∷ cs) s new
 follows_drop s old new k u cs f = record {
   states = λ j h. elim (same_or_key old new k None u j) [
     | inl q ↦ absurd (gone j h q)
@@ -185,7 +185,7 @@ true_drop next read past cs graph nodes runs k t = record {
 }
 
 -- a state can be dropped exactly where the choices allow it
-module _ (next : Key → List Value → Reply Key Value) (read : Key → Option Value) (laws : IsNext next) (past : Past read) (cs : List (Choice Key)) (graph : GraphView) (s : Standing)
+module _ (next : Key → List Value → Reply Key Value) (read : Key → Option Value) (laws : IsNext next) (past : Past read) (cs : List (Choice Key)) (graph : GraphView) (s : RoundView)
     (b : IsBeside graph s) (roots : past.roots ≡ s.roots) (t : IsTrueOf next read past cs graph s.table.nodes s.table.runs.items) where
   pub stalled_is : IsStalled s → IsStall next cycle read (record_at past.entry) past.roots cs
   stalled_is x = (

@@ -1,47 +1,47 @@
--- What moves leave as it is.
+-- What steps leave as it is.
 use Rattle.std.proofs.Common.{◌≡◌, inl, inr, List, Some, None, refl, sym, ◌∙◌, ap}
-use Rattle.evaluation.specs.Graph.{Record}
+use Rattle.engine_semantics.specs.Graph.{Record}
 use Rattle.keys.specs.declared.key.Key.{Key}
 use Rattle.keys.specs.declared.value.Value.{Value}
 use Rattle.node.specs.Graphs.{GraphView, record_at, Sets}
 use Rattle.node.specs.Records.{items_of}
 use Rattle.node.proofs.Lists.{some_is, decide_key}
-use Rattle.open_nodes.proofs.Lookups.{other_key}
-use Rattle.open_nodes.specs.Nodes.{node_at, IsUnsettled, IsOpen}
-use Rattle.open_nodes.specs.Steps.{HasPhase, HasWatcher, HasLeft, HasAsked}
-use Rattle.open_nodes.specs.declared.table.Node.{Node}
-use Rattle.open_nodes.specs.declared.table.Phase.{Phase}
-use Rattle.open_nodes.specs.declared.table.Phase.TheVariants as phase
-use Rattle.open_nodes.specs.declared.table.Table.{Table}
-use Rattle.open_nodes.proofs.Wholes.{unsettled_not_clean}
-use Rattle.round.specs.Frames.{KeepsSettled, KeepsFrame, KeepsFrameBut}
+use Rattle.round_nodes.proofs.Lookups.{other_key}
+use Rattle.round_nodes.specs.Nodes.{node_at, IsUnsettled, IsOpen}
+use Rattle.round_nodes.specs.Steps.{HasPhase, HasWatcher, HasLeft, HasAsked}
+use Rattle.round_nodes.specs.declared.table.Node.{Node}
+use Rattle.round_nodes.specs.declared.table.Phase.{Phase}
+use Rattle.round_nodes.specs.declared.table.Phase.TheVariants as phase
+use Rattle.round_nodes.specs.declared.table.OpenNodes.{OpenNodes}
+use Rattle.round_nodes.proofs.Wholes.{unsettled_not_clean}
+use Rattle.round.specs.Frames.{KeepsSettled, KeepsOthers, KeepsOthersBut}
 use Rattle.round.specs.Moves.{Wants}
 
 same_settled : (graph : GraphView) → KeepsSettled graph graph
 same_settled graph j s e d = e
 
-pub frame_same : (graph : GraphView) (before after : Table) → after.nodes ≡ before.nodes → KeepsFrame graph graph before after
+pub frame_same : (graph : GraphView) (before after : OpenNodes) → after.nodes ≡ before.nodes → KeepsOthers graph graph before after
 frame_same graph before after q = (same_settled graph, (λ k n e r. (n, ap (λ x. node_at x k) q ∙ e, r, refl)), λ k n e r. (n, ap (λ x. node_at x k) q ∙ e, r, refl))
 
-pub frame_on : (a b c : GraphView) (x y z : Table) → KeepsFrame a b x y → KeepsFrame b c y z → KeepsFrame a c x z
+pub frame_on : (a b c : GraphView) (x y z : OpenNodes) → KeepsOthers a b x y → KeepsOthers b c y z → KeepsOthers a c x z
 frame_on a b c x y z f g = (
   (λ j s e d. g.0 j s (f.0 j s e d) d),
   (λ k n e r. let p = f.1 k n e r in let q = g.1 k p.0 p.1 p.2 in (q.0, q.1, q.2, q.3 ∙ p.3)),
   λ k n e r. let p = f.2 k n e r in let q = g.2 k p.0 p.1 p.2 in (q.0, q.1, q.2, q.3 ∙ p.3),
 )
 
-pub frame_on_but : (key : Key) (a b c : GraphView) (x y z : Table) → KeepsFrameBut key a b x y → KeepsFrame b c y z → KeepsFrameBut key a c x z
+pub frame_on_but : (key : Key) (a b c : GraphView) (x y z : OpenNodes) → KeepsOthersBut key a b x y → KeepsOthers b c y z → KeepsOthersBut key a c x z
 frame_on_but key a b c x y z f g = (
   (λ j s e d. g.0 j s (f.0 j s e d) d),
   (λ k n e r. let p = f.1 k n e r in let q = g.1 k p.0 p.1 p.2 in (q.0, q.1, q.2, q.3 ∙ p.3)),
   λ k n o e r. let p = f.2 k n o e r in let q = g.2 k p.0 p.1 p.2 in (q.0, q.1, q.2, q.3 ∙ p.3),
 )
 
-pub frame_wants : (old new : GraphView) (before after : Table) → Wants old new before after → KeepsFrame old new before after
+pub frame_wants : (old new : GraphView) (before after : OpenNodes) → Wants old new before after → KeepsOthers old new before after
 frame_wants old new before after w = (w.widens.clean, (λ k n e r. (n, w.widens.open_still k n e, r, refl)), λ k n e r. (n, w.widens.open_still k n e, r, refl))
 
 -- a node that makes no turns does something else
-pub frame_phase : (graph : GraphView) (before after : Table) (k : Key) (n : Node) → node_at before.nodes k ≡ Some n → (n.phase ≡ phase.Running → ⊥) → (n.phase ≡ phase.Out → ⊥) → (p : Phase) → HasPhase before.nodes after.nodes k p → KeepsFrame graph graph before after
+pub frame_phase : (graph : GraphView) (before after : OpenNodes) (k : Key) (n : Node) → node_at before.nodes k ≡ Some n → (n.phase ≡ phase.Running → ⊥) → (n.phase ≡ phase.Out → ⊥) → (p : Phase) → HasPhase before.nodes after.nodes k p → KeepsOthers graph graph before after
 frame_phase graph before after k n there idle here p h = (
   same_settled graph,
   (λ j m e r. elim (decide_key k j) [
@@ -55,7 +55,7 @@ frame_phase graph before after k n there idle here p h = (
 )
 
 -- a node waits for another one
-pub frame_watch : (graph : GraphView) (before after : Table) (member key : Key) → IsOpen before.nodes member → HasWatcher before.nodes after.nodes member key → KeepsFrame graph graph before after
+pub frame_watch : (graph : GraphView) (before after : OpenNodes) (member key : Key) → IsOpen before.nodes member → HasWatcher before.nodes after.nodes member key → KeepsOthers graph graph before after
 frame_watch graph before after member key o h = (
   same_settled graph,
   (λ j m e r. elim (decide_key member j) [
@@ -69,8 +69,8 @@ frame_watch graph before after member key o h = (
 )
 
 -- a node that was not settled and makes no turns leaves, and is settled
-pub frame_left : (old new : GraphView) (before middle after : Table) (k : Key) (n : Node) (s : Record Key Value) → node_at before.nodes k ≡ Some n → (n.phase ≡ phase.Running → ⊥) → IsUnsettled (record_at old) k
-    → HasLeft before middle k n → after.nodes ≡ middle.nodes → Sets (record_at old) (record_at new) k s → KeepsFrameBut k old new before after
+pub frame_left : (old new : GraphView) (before middle after : OpenNodes) (k : Key) (n : Node) (s : Record Key Value) → node_at before.nodes k ≡ Some n → (n.phase ≡ phase.Running → ⊥) → IsUnsettled (record_at old) k
+    → HasLeft before middle k n → after.nodes ≡ middle.nodes → Sets (record_at old) (record_at new) k s → KeepsOthersBut k old new before after
 frame_left old new before middle after k n s there idle unsettled left same sets = (
   (λ j x e d. elim (decide_key k j) [
     | inl q ↦ absurd (unsettled_not_clean (record_at old k) x unsettled (ap (record_at old) q ∙ e) d)
@@ -84,7 +84,7 @@ frame_left old new before middle after k n s there idle unsettled left same sets
 )
 
 -- a node that has no job out is no exception
-pub frame_whole : (old new : GraphView) (before after : Table) (k : Key) (n : Node) → node_at before.nodes k ≡ Some n → (n.phase ≡ phase.Out → ⊥) → KeepsFrameBut k old new before after → KeepsFrame old new before after
+pub frame_whole : (old new : GraphView) (before after : OpenNodes) (k : Key) (n : Node) → node_at before.nodes k ≡ Some n → (n.phase ≡ phase.Out → ⊥) → KeepsOthersBut k old new before after → KeepsOthers old new before after
 frame_whole old new before after k n there here f = (
   f.0,
   f.1,
@@ -94,8 +94,8 @@ frame_whole old new before after k n there here f = (
   ],
 )
 
--- a turn that was out asks a group
-pub frame_asked : (graph : GraphView) (before after : Table) (k : Key) (n : Node) (group : List Key) → node_at before.nodes k ≡ Some n → (n.phase ≡ phase.Running → ⊥) → HasAsked before.nodes after.nodes k group → KeepsFrameBut k graph graph before after
+-- a turn that was out asks for a group
+pub frame_asked : (graph : GraphView) (before after : OpenNodes) (k : Key) (n : Node) (group : List Key) → node_at before.nodes k ≡ Some n → (n.phase ≡ phase.Running → ⊥) → HasAsked before.nodes after.nodes k group → KeepsOthersBut k graph graph before after
 frame_asked graph before after k n group there idle h = (
   same_settled graph,
   (λ j m e r. elim (decide_key k j) [

@@ -2,44 +2,44 @@
 use Rattle.std.proofs.Common.{◌≡◌, ◌≢◌, inl, inr, List, [], ◌∷◌, ◌++◌, Option, Some, None, refl, sym, ◌∙◌, ap, subst, ◌+◌, length, arith, length-append}
 use Rattle.indexmap.specs.IndexMap.{get, Updates}
 use Rattle.std.specs.declared.alloc.Global.{Global}
-use Rattle.evaluation.specs.Reply.{Reply, Ask}
-use Rattle.evaluation.specs.Value.{In, first, after, IsMember}
-use Rattle.evaluation.specs.Choices.{Choice, Hand, Back, handed}
-use Rattle.evaluation.specs.States.{HasBacks}
-use Rattle.evaluation.proofs.Deciding.{length_snoc}
-use Rattle.evaluation.proofs.Moves.{alike_hand, alike_back, has_hand, has_back, not_out_back}
+use Rattle.engine_semantics.specs.Reply.{Reply, Ask}
+use Rattle.engine_semantics.specs.Value.{In, first, after, IsMember}
+use Rattle.engine_semantics.specs.Choices.{Choice, Hand, Back, handed}
+use Rattle.engine_semantics.specs.States.{HasBacks}
+use Rattle.engine_semantics.proofs.Deciding.{length_snoc}
+use Rattle.engine_semantics.proofs.Moves.{alike_hand, alike_back, has_hand, has_back, not_out_back}
 use Rattle.keys.specs.Keys.{key_eq}
 use Rattle.keys.specs.declared.key.Key.{Key}
 use Rattle.keys.specs.declared.value.Value.{Value}
 use Rattle.node.specs.Graphs.{GraphView, record_at}
 use Rattle.node.specs.Edges.{IsAdded, IsRemoved}
 use Rattle.node.proofs.Lists.{some_is, decide_key, in_left, in_right}
-use Rattle.open_nodes.proofs.Lookups.{other_key}
-use Rattle.open_nodes.specs.Nodes.{node_at, groups_of, pending, IsPlain, Stands, IsWhole, AreOut}
-use Rattle.open_nodes.specs.Steps.{HasPhase, HasAsked, Pends, SameRuns}
-use Rattle.open_nodes.specs.Truths.{IsNext, Past, IsTrueOf, IsOpenTruly, IsDoing, IsRun, TellOut}
-use Rattle.open_nodes.specs.declared.run.Run.{Run}
-use Rattle.open_nodes.specs.declared.table.Node.{Node}
-use Rattle.open_nodes.specs.declared.table.Phase.{Phase}
-use Rattle.open_nodes.specs.declared.table.Phase.TheVariants as phase
-use Rattle.open_nodes.specs.declared.table.Table.{Table}
-use Rattle.open_nodes.proofs.Wholes.{node_changes}
+use Rattle.round_nodes.proofs.Lookups.{other_key}
+use Rattle.round_nodes.specs.Nodes.{node_at, groups_of, pending, IsPlain, Stands, IsWhole, AreOut}
+use Rattle.round_nodes.specs.Steps.{HasPhase, HasAsked, Pends, SameRuns}
+use Rattle.round_nodes.specs.Invariants.{IsNext, Past, IsTrueOf, IsOpenTruly, IsDoing, IsRun, TellOut}
+use Rattle.round_nodes.specs.declared.run.Run.{Run}
+use Rattle.round_nodes.specs.declared.table.Node.{Node}
+use Rattle.round_nodes.specs.declared.table.Phase.{Phase}
+use Rattle.round_nodes.specs.declared.table.Phase.TheVariants as phase
+use Rattle.round_nodes.specs.declared.table.OpenNodes.{OpenNodes}
+use Rattle.round_nodes.proofs.Wholes.{node_changes}
 use Rattle.std.specs.declared.vec.Vec.{Vec}
 use Rattle.node.specs.Records.{items_of}
-use Rattle.open_nodes.specs.TurnCounts.{turns_of, asked_by, MakesNone, MakesMore}
-use Rattle.open_nodes.proofs.Counting.{counts, same_asked}
-use Rattle.open_nodes.proofs.Followings.{Grows, grows_one}
-use Rattle.open_nodes.proofs.Settlings.{truth_changes}
-use Rattle.open_nodes.specs.Members.{AreAnswers, Answers}
+use Rattle.round_nodes.specs.TurnCounts.{turns_of, asked_by, MakesNoTurn, MakesMore}
+use Rattle.round_nodes.proofs.Counting.{counts, same_asked}
+use Rattle.round_nodes.proofs.Followings.{Grows, grows_one}
+use Rattle.round_nodes.proofs.Settlings.{truth_changes}
+use Rattle.round_nodes.specs.Members.{AreAnswers, Answers}
 use Rattle.round.specs.NodeStates.{NodeStates, NeedsValues, kept_answers}
 use Rattle.round.specs.Turning.{IsOutAt, IsOutWith}
-use Rattle.open_nodes.proofs.Grouping.{never_none, items_length}
-use Rattle.round.specs.Moves.{StaysTrueBy, KeepsWanted}
+use Rattle.round_nodes.proofs.Grouping.{never_none, items_length}
+use Rattle.round.specs.Moves.{StaysTrueBy, KeepsOpened}
 use Rattle.round.proofs.Wanting.{wanted_set}
 use Rattle.round.proofs.Ending.{asks_more, plain_values}
 
 -- the job of a node that is ready is handed out
-module _ (graph : GraphView) (before later : Table) (k : Key) (w : IsWhole (record_at graph) before.nodes before.ready.keys (pending before)) (ready : In k before.ready.keys) where
+module _ (graph : GraphView) (before later : OpenNodes) (k : Key) (w : IsWhole (record_at graph) before.nodes before.ready.keys (pending before)) (ready : In k before.ready.keys) where
   abbrev n : Node
   n = (w.ready_now k ready).0
 
@@ -72,7 +72,7 @@ module _ (graph : GraphView) (before later : Table) (k : Key) (w : IsWhole (reco
     pub handed_whole : IsWhole (record_at graph) later.nodes later.ready.keys (pending later)
     handed_whole = subst (λ (xs : List Key). IsWhole (record_at graph) later.nodes later.ready.keys xs) (sym pends)
         (node_changes (record_at graph) before.nodes later.nodes k m (h n there) before.ready.keys later.ready.keys (pending before) (pending before) w
-        (w.holds k n there).0 all_plain (λ x y e i. subst (λ (z : Node). In y z.watchers.items) (some_is (sym e ∙ there)) i)
+        (w.holds k n there).0 all_plain (λ x y e i. subst (λ (z : Node). In y z.waiters.items) (some_is (sym e ∙ there)) i)
         (λ j i. inl ((λ q. removed.gone (subst (λ y. In y later.ready.keys) (sym q) i)), removed.from j i))
         (λ j d i. elim (removed.keeps j i) [ inl a ↦ a | inr q ↦ absurd (d q) ])
         (λ j d i. i) (λ o. absurd (o refl)))
@@ -95,10 +95,10 @@ module _ (graph : GraphView) (before later : Table) (k : Key) (w : IsWhole (reco
       ]
     ]
 
-    pub handed_keeps : KeepsWanted graph graph before later
+    pub handed_keeps : KeepsOpened graph graph before later
     handed_keeps = wanted_set graph before later k m (h n there)
 
-    pub handed_turns : SameRuns before later → MakesNone before later
+    pub handed_turns : SameRuns before later → MakesNoTurn before later
     handed_turns runs = same_asked before later k n m there (h n there) refl runs
 
     pub handed_true : (read : Key → Option Value) → SameRuns before later → StaysTrueBy (Hand k ∷ []) read graph graph before later
@@ -116,8 +116,8 @@ module _ (graph : GraphView) (before later : Table) (k : Key) (w : IsWhole (reco
           out = handed;
         }) (w.holds k n there).0)
 
--- a turn that asks a group comes back
-module _ (graph : GraphView) (before later : Table) (k : Key) (answers : List Value) (o : IsOutWith graph before k answers)
+-- a turn that asks for a group comes back
+module _ (graph : GraphView) (before later : OpenNodes) (k : Key) (answers : List Value) (o : IsOutWith graph before k answers)
     (w : IsWhole (record_at graph) before.nodes before.ready.keys (pending before)) (group : List Key)
     (asked : HasAsked before.nodes later.nodes k group) (pends : Pends before later k) where
   abbrev new_node : Node
@@ -142,7 +142,7 @@ module _ (graph : GraphView) (before later : Table) (k : Key) (answers : List Va
   asked_whole = subst (λ (xs : List Key). IsWhole (record_at graph) later.nodes xs (pending later)) (sym pends.ready)
       (node_changes (record_at graph) before.nodes later.nodes k new_node u before.ready.keys before.ready.keys (pending before) (pending later) w
       (w.holds k o.node o.there).0 new_stands
-      (λ x y e i. subst (In y) (sym (asked o.node o.there).4) (subst (λ (z : Node). In y z.watchers.items) (some_is (sym e ∙ o.there)) i))
+      (λ x y e i. subst (In y) (sym (asked o.node o.there).4) (subst (λ (z : Node). In y z.waiters.items) (some_is (sym e ∙ o.there)) i))
       (λ j i. inl (not_ready j i, i)) (λ j d i. i)
       (λ j d i. subst (In j) (sym pends.pends) (in_left (k ∷ []) i))
       (λ f. inl (subst (In k) (sym pends.pends) (in_right (pending before) first))))
@@ -160,7 +160,7 @@ module _ (graph : GraphView) (before later : Table) (k : Key) (answers : List Va
       tail_in {i = i} (first {xs = ys}) q d = let same : k ≡ i = cc in absurd (d same)
       tail_in {i = i} (after {xs = ys} h) q d = let same : ys ≡ keys = cc in subst (In i) same h
 
-  pub asked_keeps : KeepsWanted graph graph before later
+  pub asked_keeps : KeepsOpened graph graph before later
   asked_keeps = wanted_set graph before later k new_node u
 
   pub asked_turns : MakesMore 1 before later

@@ -1,35 +1,35 @@
--- A node is looked at.
+-- A node is visited.
 use Rattle.std.proofs.Common.{◌≡◌, ◌≢◌, ◌⊎◌, inl, inr, ℕ, Bool, true, false, List, [], ◌∷◌, ◌++◌, Option, Some, None, refl, sym, ◌∙◌, ap, subst}
 use Rattle.indexmap.specs.IndexMap.{Updates}
 use Rattle.std.specs.Cmp.{unsigned_Decides}
 use Rattle.std.specs.Prelude.{vec_len, length, ◌==◌}
 use Rattle.std.specs.declared.alloc.Global.{Global}
 use Rattle.std.specs.declared.vec.Vec.{Vec}
-use Rattle.evaluation.specs.Value.{In, first, after, IsMember}
-use Rattle.evaluation.proofs.Moves.{alike}
+use Rattle.engine_semantics.specs.Value.{In, first, after, IsMember}
+use Rattle.engine_semantics.proofs.Moves.{alike}
 use Rattle.keys.specs.Keys.{key_eq}
 use Rattle.keys.specs.declared.key.Key.{Key}
 use Rattle.keys.specs.declared.value.Value.{Value}
 use Rattle.node.specs.Graphs.{GraphView, record_at}
 use Rattle.node.specs.Records.{items_of}
 use Rattle.node.proofs.Lists.{some_is, true_false, none_of, not_in, decide_key, in_split, in_left, in_right, in_one}
-use Rattle.open_nodes.proofs.Lookups.{other_key}
-use Rattle.open_nodes.specs.Nodes.{Nodes, node_at, Records, groups_of, pending, IsOpen, IsUnsettled, IsClean, IsPlain, Stands, IsCurrent, IsBlocked, IsWhole, AreOut}
-use Rattle.open_nodes.specs.Steps.{Pends, Readies, HasWatcher, SameRuns}
-use Rattle.open_nodes.specs.Truths.{IsTrueOf, IsDoing, TellOut}
-use Rattle.open_nodes.specs.declared.run.Run.{Run}
-use Rattle.open_nodes.specs.declared.table.Node.{Node}
-use Rattle.open_nodes.specs.declared.table.Phase.{Phase}
-use Rattle.open_nodes.specs.declared.table.Phase.TheVariants as phase
-use Rattle.open_nodes.specs.declared.table.Table.{Table}
-use Rattle.open_nodes.proofs.Wholes.{unsettled_not_clean, node_changes, open_on, blocked_on, looked_at, more_waiting, current_on, clean_on, becomes_ready}
-use Rattle.open_nodes.specs.TurnCounts.{turns_of, MakesNone}
-use Rattle.open_nodes.proofs.Counting.{counts_same, same_asked}
-use Rattle.open_nodes.proofs.Followings.{grows_none}
-use Rattle.open_nodes.proofs.Settlings.{truth_changes}
-use Rattle.open_nodes.specs.Members.{IsMissing, plain_value}
-use Rattle.open_nodes.proofs.Grouping.{clean_cycle}
-use Rattle.round.specs.Moves.{Wants, IsWanted, KeepsWanted}
+use Rattle.round_nodes.proofs.Lookups.{other_key}
+use Rattle.round_nodes.specs.Nodes.{Nodes, node_at, Records, groups_of, pending, IsOpen, IsUnsettled, IsClean, IsPlain, Stands, IsCurrent, IsBlocked, IsWhole, AreOut}
+use Rattle.round_nodes.specs.Steps.{Pends, Readies, HasWatcher, SameRuns}
+use Rattle.round_nodes.specs.Invariants.{IsTrueOf, IsDoing, TellOut}
+use Rattle.round_nodes.specs.declared.run.Run.{Run}
+use Rattle.round_nodes.specs.declared.table.Node.{Node}
+use Rattle.round_nodes.specs.declared.table.Phase.{Phase}
+use Rattle.round_nodes.specs.declared.table.Phase.TheVariants as phase
+use Rattle.round_nodes.specs.declared.table.OpenNodes.{OpenNodes}
+use Rattle.round_nodes.proofs.Wholes.{unsettled_not_clean, node_changes, open_on, blocked_on, looked_at, more_waiting, current_on, clean_on, becomes_ready}
+use Rattle.round_nodes.specs.TurnCounts.{turns_of, MakesNoTurn}
+use Rattle.round_nodes.proofs.Counting.{counts_same, same_asked}
+use Rattle.round_nodes.proofs.Followings.{grows_none}
+use Rattle.round_nodes.proofs.Settlings.{truth_changes}
+use Rattle.round_nodes.specs.Members.{IsMissing, plain_value}
+use Rattle.round_nodes.proofs.Grouping.{clean_cycle}
+use Rattle.round.specs.Moves.{Wants, IsOpenOrSettled, KeepsOpened}
 use Rattle.round.specs.Looks.{IsAwaiting, IsLastGroup, IsRunningAt, IsNextKey}
 use Rattle.round.proofs.Wanting.{StaysTrue, wanted_set}
 
@@ -42,20 +42,20 @@ last_same (z ∷ []) [] x y e = cc
 last_same (z ∷ w ∷ xs) [] x y e = cc
 last_same (z ∷ xs) (w ∷ ys) x y e = let q : xs ++ x ∷ [] ≡ ys ++ y ∷ [] = cc in last_same xs ys x y q
 
--- after the members of its group are wanted, the node has its group still, and its members are open or settled
-module _ (old new : GraphView) (before later : Table) (k : Key) (missing : List Key) (a : IsAwaiting old before k missing) (w : Wants old new before later)
-    (wanted : (j : Key) → In j missing → IsWanted new later j) where
+-- after the members of its group are opened, the node has its group still, and its members are open or settled
+module _ (old new : GraphView) (before later : OpenNodes) (k : Key) (missing : List Key) (a : IsAwaiting old before k missing) (w : Wants old new before later)
+    (wanted : (j : Key) → In j missing → IsOpenOrSettled new later j) where
   pub still_there : node_at later.nodes k ≡ Some a.node
   still_there = w.widens.open_still k a.node a.there
 
   pub still_current : IsCurrent (record_at new) k (groups_of a.node) a.node.phase a.group
   still_current = current_on (record_at old) (record_at new) w.widens.clean k (groups_of a.node) a.node.phase a.group (w.widens.same k a.node a.there) a.current
 
-  pub all_wanted : (j : Key) → In j a.group → IsWanted new later j
+  pub all_wanted : (j : Key) → In j a.group → IsOpenOrSettled new later j
   all_wanted j i = elim (a.of_group.rest j i) [ inl m ↦ wanted j m | inr c ↦ inr (clean_on (record_at old) (record_at new) w.widens.clean j c) ]
 
 -- a node comes to wait for a member of its group
-module _ (graph : GraphView) (before later : Table) (k member : Key) (n : Node) (group : List Key)
+module _ (graph : GraphView) (before later : OpenNodes) (k member : Key) (n : Node) (group : List Key)
     (w : IsWhole (record_at graph) before.nodes before.ready.keys (k ∷ pending before))
     (there : node_at before.nodes k ≡ Some n) (current : IsCurrent (record_at graph) k (groups_of n) n.phase group)
     (wanted : (j : Key) → In j group → IsOpen before.nodes j ⊎ IsClean (record_at graph) j)
@@ -76,11 +76,11 @@ module _ (graph : GraphView) (before later : Table) (k member : Key) (n : Node) 
   same_phase : m.phase ≡ o.phase
   same_phase = sym (watches m open_member.1).3
 
-  more_watchers : (x : Node) (y : Key) → node_at before.nodes member ≡ Some x → In y x.watchers.items → In y o.watchers.items
-  more_watchers x y e i = subst (In y) (sym (watches m open_member.1).4) (in_left (k ∷ []) (subst (λ (z : Node). In y z.watchers.items) (some_is (sym e ∙ open_member.1)) i))
+  more_watchers : (x : Node) (y : Key) → node_at before.nodes member ≡ Some x → In y x.waiters.items → In y o.waiters.items
+  more_watchers x y e i = subst (In y) (sym (watches m open_member.1).4) (in_left (k ∷ []) (subst (λ (z : Node). In y z.waiters.items) (some_is (sym e ∙ open_member.1)) i))
 
-  now_watches : In k o.watchers.items
-  now_watches = subst (In k) (sym (watches m open_member.1).4) (in_right m.watchers.items first)
+  now_watches : In k o.waiters.items
+  now_watches = subst (In k) (sym (watches m open_member.1).4) (in_right m.waiters.items first)
 
   changed : IsWhole (record_at graph) later.nodes before.ready.keys (k ∷ pending before)
   changed = node_changes (record_at graph) before.nodes later.nodes member o u before.ready.keys before.ready.keys (k ∷ pending before) (k ∷ pending before) w
@@ -128,10 +128,10 @@ module _ (graph : GraphView) (before later : Table) (k member : Key) (n : Node) 
     | inr d ↦ out j x (sym (other_key before.nodes later.nodes member (Some o) u j d) ∙ e) f
   ]
 
-  pub watched_keeps : KeepsWanted graph graph before later
+  pub watched_keeps : KeepsOpened graph graph before later
   watched_keeps = wanted_set graph before later member o u
 
-  pub watched_turns : SameRuns before later → MakesNone before later
+  pub watched_turns : SameRuns before later → MakesNoTurn before later
   watched_turns runs = same_asked before later member m o open_member.1 u (ap (λ (gs : List (Vec Key Global)). length gs) (watches m open_member.1).2) runs
 
   pub watched_true : (read : Key → Option Value) → SameRuns before later → StaysTrue read graph graph before later
@@ -146,8 +146,8 @@ module _ (graph : GraphView) (before later : Table) (k member : Key) (n : Node) 
         out = subst (λ (p : Phase). TellOut next read past cs member p) same_phase h.out;
       }) (w.holds member m open_member.1).0)
 
--- a node is to be looked at again
-module _ (graph : GraphView) (before later : Table) (k : Key) (pends : Pends before later k) (nodes : later.nodes ≡ before.nodes) where
+-- a node is to be visited again
+module _ (graph : GraphView) (before later : OpenNodes) (k : Key) (pends : Pends before later k) (nodes : later.nodes ≡ before.nodes) where
   pub again_whole : IsWhole (record_at graph) before.nodes before.ready.keys (k ∷ pending before) → IsWhole (record_at graph) later.nodes later.ready.keys (pending later)
   again_whole w = subst (λ (x : Nodes). IsWhole (record_at graph) x later.ready.keys (pending later)) (sym nodes) (subst (λ (xs : List Key). IsWhole (record_at graph) before.nodes xs (pending later)) (sym pends.ready)
       (more_waiting (record_at graph) before.nodes before.ready.keys (k ∷ pending before) (pending later) w (λ j i. subst (In j) (sym pends.pends) (turn (pending before) i))))
@@ -159,19 +159,19 @@ module _ (graph : GraphView) (before later : Table) (k : Key) (pends : Pends bef
           go (first {xs = zs}) e = let q : k ≡ j = cc in subst (λ y. In y (xs ++ k ∷ [])) q (in_right xs first)
           go (after {xs = zs} h) e = let q : zs ≡ xs = cc in in_left (k ∷ []) (subst (In j) q h)
 
-  pub again_turns : MakesNone before later
+  pub again_turns : MakesNoTurn before later
   again_turns = counts_same before later nodes (ap turns_of pends.runs)
 
   pub again_true : (read : Key → Option Value) → StaysTrue read graph graph before later
   again_true read = λ next laws past cs t. subst (λ (x : Nodes). IsTrueOf next read past cs graph x later.runs.items) (sym nodes) (subst (λ (x : List Run). IsTrueOf next read past cs graph before.nodes x) (sym pends.runs) t)
 
--- an unsettled key that is wanted is open
-pub wanted_open : (graph : GraphView) (table : Table) (k : Key) → IsWanted graph table k → IsUnsettled (record_at graph) k → IsOpen table.nodes k
+-- an unsettled key that is opened is open
+pub wanted_open : (graph : GraphView) (table : OpenNodes) (k : Key) → IsOpenOrSettled graph table k → IsUnsettled (record_at graph) k → IsOpen table.nodes k
 wanted_open graph table k (inl o) u = o
 wanted_open graph table k (inr c) u = absurd (unsettled_not_clean (record_at graph k) c.0 u c.1 c.2)
 
 -- a node that makes turns, whose last group is settled
-module _ (graph : GraphView) (before : Table) (k : Key) (group : List Key) (run : IsRunningAt before k group)
+module _ (graph : GraphView) (before : OpenNodes) (k : Key) (group : List Key) (run : IsRunningAt before k group)
     (w : IsWhole (record_at graph) before.nodes before.ready.keys (k ∷ pending before)) (settled : (j : Key) → In j group → IsClean (record_at graph) j) where
   abbrev node : Node
   node = run.0
@@ -210,12 +210,12 @@ module _ (graph : GraphView) (before : Table) (k : Key) (group : List Key) (run 
             | inr b ↦ plain j (subst (In j) (in_one b ∙ q) m.2)
           ]
 
-  pub now_ready : (later : Table) → Readies before later k → later.nodes ≡ before.nodes → ((j : Key) → In j group → IsPlain (record_at graph) j) → IsWhole (record_at graph) later.nodes later.ready.keys (pending later)
+  pub now_ready : (later : OpenNodes) → Readies before later k → later.nodes ≡ before.nodes → ((j : Key) → In j group → IsPlain (record_at graph) j) → IsWhole (record_at graph) later.nodes later.ready.keys (pending later)
   now_ready later readies nodes plain = subst (λ (x : Nodes). IsWhole (record_at graph) x later.ready.keys (pending later)) (sym nodes) (subst (λ (xs : List Key). IsWhole (record_at graph) before.nodes later.ready.keys xs) (sym readies.pends)
       (becomes_ready (record_at graph) before.nodes before.ready.keys later.ready.keys (pending before) k node run.1 run.2 (all_plain plain) readies.ready w))
 
 -- the members that wait of a node that makes turns
-pub running_awaits : (graph : GraphView) (before : Table) (k : Key) (group missing : List Key) → IsRunningAt before k group → IsMissing (record_at graph) group missing → (missing ≡ [] → ⊥) → IsAwaiting graph before k missing
+pub running_awaits : (graph : GraphView) (before : OpenNodes) (k : Key) (group missing : List Key) → IsRunningAt before k group → IsMissing (record_at graph) group missing → (missing ≡ [] → ⊥) → IsAwaiting graph before k missing
 running_awaits graph before k group missing run m n = record { node = run.0; there = run.1; group = group; current = subst (λ (p : Phase). IsCurrent (record_at graph) k (groups_of run.0) p group) (sym run.2) (current run.3); of_group = m }
   where
     none : (xs : List Key) → ((j : Key) → In j xs → In j group) → group ≡ [] → xs ≡ []
@@ -226,8 +226,8 @@ running_awaits graph before k group missing run m n = record { node = run.0; the
     current (inl e) = absurd (n (none missing m.among e.1))
     current (inr p) = p
 
--- a node that does neither is looked at for nothing
-pub looked_idle : (graph : GraphView) (table : Table) (k : Key) → IsWhole (record_at graph) table.nodes table.ready.keys (k ∷ pending table)
+-- a node that does neither is visited for nothing
+pub looked_idle : (graph : GraphView) (table : OpenNodes) (k : Key) → IsWhole (record_at graph) table.nodes table.ready.keys (k ∷ pending table)
     → ((n : Node) (at : ℕ) → node_at table.nodes k ≡ Some n → n.phase ≡ phase.Checking at → ⊥) → ((n : Node) → node_at table.nodes k ≡ Some n → n.phase ≡ phase.Running → ⊥) → IsWhole (record_at graph) table.nodes table.ready.keys (pending table)
 looked_idle graph table k w not_checking not_running = looked_at (record_at graph) table.nodes table.ready.keys (pending table) k w (λ n e o. absurd (go n e n.phase refl o))
   where
@@ -250,11 +250,11 @@ none_missing records group missing m b h t j i = elim (m.rest j i) [ inl x ↦ a
     empty : missing.items ≡ []
     empty = none_of missing.items (sym missing.ok.0 ∙ (unsigned_Decides (vec_len missing) 0).0 (sym h ∙ t))
 
--- the first of those that are to be looked at is taken off
-module _ (graph : GraphView) (before later : Table) (k : Key) (next_key : IsNextKey before later (Some k)) where
+-- the first of those that are to be visited is taken off
+module _ (graph : GraphView) (before later : OpenNodes) (k : Key) (next_key : IsNextKey before later (Some k)) where
   pub next_true : (read : Key → Option Value) → StaysTrue read graph graph before later
   next_true read = λ next laws past cs t. subst (λ (x : Nodes). IsTrueOf next read past cs graph x later.runs.items) (sym next_key.1) (subst (λ (x : List Run). IsTrueOf next read past cs graph before.nodes x) (sym next_key.3) t)
 
-pub next_nodes : (before later : Table) (k : Option Key) → IsNextKey before later k → later.nodes ≡ before.nodes
+pub next_nodes : (before later : OpenNodes) (k : Option Key) → IsNextKey before later k → later.nodes ≡ before.nodes
 next_nodes before later (Some k) n = n.1
-next_nodes before later None n = ap (λ (x : Table). x.nodes) n.1
+next_nodes before later None n = ap (λ (x : OpenNodes). x.nodes) n.1

@@ -1,21 +1,21 @@
 -- The next turn of a key that is ready.
 use Rattle.std.proofs.Common.{◌≡◌, List, [], ◌∷◌, ◌++◌, Option, Some, subst}
-use Rattle.evaluation.specs.Reply.{Reply}
-use Rattle.evaluation.specs.Value.{Grounded, AllGrounded, none, one, In, first, after, IsMember}
-use Rattle.evaluation.specs.Choices.{Choice, Comes, stay, asks}
+use Rattle.engine_semantics.specs.Reply.{Reply}
+use Rattle.engine_semantics.specs.Value.{Grounded, AllGrounded, none, one, In, first, after, IsMember}
+use Rattle.engine_semantics.specs.Choices.{Choice, Comes, stay, asks}
 use Rattle.keys.specs.Cycles.{cycle}
 use Rattle.keys.specs.declared.key.Key.{Key}
 use Rattle.keys.specs.declared.value.Value.{Value}
 use Rattle.node.specs.Graphs.{GraphView, record_at}
-use Rattle.open_nodes.specs.Nodes.{node_at, groups_of, IsPlain}
-use Rattle.open_nodes.specs.Truths.{IsNext, Past, Asks, nothing, last, more, IsRun, IsDoing, IsOpenTruly, IsTrueOf}
-use Rattle.open_nodes.specs.declared.table.Node.{Node}
-use Rattle.open_nodes.specs.declared.table.Phase.{Phase}
-use Rattle.open_nodes.specs.declared.table.Phase.TheVariants as phase
-use Rattle.open_nodes.specs.declared.table.Table.{Table}
-use Rattle.open_nodes.proofs.Settlings.{plain_grounded}
+use Rattle.round_nodes.specs.Nodes.{node_at, groups_of, IsPlain}
+use Rattle.round_nodes.specs.Invariants.{IsNext, Past, Asks, nothing, last, more, IsRun, IsDoing, IsOpenTruly, IsTrueOf}
+use Rattle.round_nodes.specs.declared.table.Node.{Node}
+use Rattle.round_nodes.specs.declared.table.Phase.{Phase}
+use Rattle.round_nodes.specs.declared.table.Phase.TheVariants as phase
+use Rattle.round_nodes.specs.declared.table.OpenNodes.{OpenNodes}
+use Rattle.round_nodes.proofs.Settlings.{plain_grounded}
 use Rattle.round.specs.Call.{WantsTurn}
-use Rattle.round.specs.Moves.{IsWholeNow}
+use Rattle.round.specs.Moves.{IsInOrder}
 
 module _ (next : Key → List Value → Reply Key Value) (read : Key → Option Value) where
   abbrev pub HasGrounded : Key → Type 0
@@ -31,7 +31,7 @@ module _ (next : Key → List Value → Reply Key Value) (read : Key → Option 
   asks_comes past {a = a} (last {group = y} f) g = let vs = all_grounded y (λ j i. g j (y, first, i)) in (a ++ vs.0, asks f vs.1 stay)
   asks_comes past (more f all s) g = let r = asks_comes past s (λ j m. g j (m.0, after m.1, m.2)) in (r.0, asks f all r.1)
 
-  pub wants_turn : (laws : IsNext next) (past : Past read) (cs : List (Choice Key)) (graph : GraphView) (table : Table) → IsWholeNow graph table → IsTrueOf next read past cs graph table.nodes table.runs.items → (k : Key) → In k table.ready.keys → WantsTurn next read past graph k
+  pub wants_turn : (laws : IsNext next) (past : Past read) (cs : List (Choice Key)) (graph : GraphView) (table : OpenNodes) → IsInOrder graph table → IsTrueOf next read past cs graph table.nodes table.runs.items → (k : Key) → In k table.ready.keys → WantsTurn next read past graph k
   wants_turn laws past cs graph table w t k i = record {
     no_leaf = o.no_leaf;
     reached = o.reached;

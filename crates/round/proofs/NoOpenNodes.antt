@@ -1,9 +1,9 @@
 -- Where no node is open, none is taken.
 use Rattle.std.proofs.Common.{◌≡◌, ℕ, ◌+◌, List, [], ◌∷◌, refl, sym, ◌∙◌}
 use Rattle.keys.specs.declared.key.Key.{Key}
-use Rattle.open_nodes.specs.TurnCounts.{asked_by, asked_at, turns_of, HasMade}
-use Rattle.open_nodes.specs.Nodes.{Nodes, Records, node_at}
-use Rattle.open_nodes.specs.declared.table.Table.{Table}
+use Rattle.round_nodes.specs.TurnCounts.{asked_by, asked_at, turns_of, HasMade}
+use Rattle.round_nodes.specs.Nodes.{Nodes, Records, node_at}
+use Rattle.round_nodes.specs.declared.table.OpenNodes.{OpenNodes}
 use Rattle.round.specs.Closing.{HasTaken}
 use Rattle.round.specs.declared.closing.Stall.{Stall}
 
@@ -13,7 +13,7 @@ module _ (old new : Nodes) (same : (k : Key) → node_at new k ≡ node_at old k
   asked_same (k ∷ keys) = λ i. asked_by (same k i) + asked_same keys i
 
 -- the same nodes are open, and the same runs were made
-pub taken_same : (records : Records) (version : ℕ) (start old new : Table) (stall : Stall) → ((k : Key) → node_at new.nodes k ≡ node_at old.nodes k) → new.runs.items ≡ old.runs.items
+pub taken_same : (records : Records) (version : ℕ) (start old new : OpenNodes) (stall : Stall) → ((k : Key) → node_at new.nodes k ≡ node_at old.nodes k) → new.runs.items ≡ old.runs.items
     → HasTaken records version start old stall → HasTaken records version start new stall
 taken_same records version start old new stall same runs h = record {
   closed = h.closed;

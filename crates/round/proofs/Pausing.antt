@@ -7,8 +7,8 @@ use Rattle.std.proofs.Math.Seq.{drop-append_seam, take_all}
 use Rattle.std.proofs.lemmas.List.{map-append, drop-map, length-map, length-drop}
 use Rattle.std.specs.declared.alloc.Global.{Global}
 use Rattle.std.specs.declared.vec.Vec.{Vec}
-use Rattle.evaluation.specs.Graph.{Record}
-use Rattle.evaluation.specs.Value.{In, after, IsMember}
+use Rattle.engine_semantics.specs.Graph.{Record}
+use Rattle.engine_semantics.specs.Value.{In, after, IsMember}
 use Rattle.keys.specs.Jobs.{Waits}
 use Rattle.keys.specs.Keys.{key_eq}
 use Rattle.keys.specs.declared.key.Key.{Key}
@@ -16,18 +16,18 @@ use Rattle.keys.specs.declared.value.Value.{Value}
 use Rattle.node.specs.Graphs.{GraphView, record_at}
 use Rattle.node.specs.Records.{items_of}
 use Rattle.node.proofs.Lists.{some_is, none_some, decide_key}
-use Rattle.open_nodes.proofs.Lookups.{other_key, same_or_key}
-use Rattle.open_nodes.specs.Nodes.{Records, node_at, groups_of, IsPlain}
-use Rattle.open_nodes.specs.Steps.{HasPhase, HasAsked}
-use Rattle.open_nodes.specs.declared.table.Node.{Node}
-use Rattle.open_nodes.specs.declared.table.Phase.TheVariants as phase
-use Rattle.open_nodes.specs.declared.table.Table.{Table}
-use Rattle.round.specs.Frames.{KeepsSettled, KeepsRunning, KeepsFrameBut}
-use Rattle.open_nodes.specs.Members.{no_cycle, plain_value, all_values, AreAnswers, Answers}
-use Rattle.round.specs.Moves.{IsWholeNow}
+use Rattle.round_nodes.proofs.Lookups.{other_key, same_or_key}
+use Rattle.round_nodes.specs.Nodes.{Records, node_at, groups_of, IsPlain}
+use Rattle.round_nodes.specs.Steps.{HasPhase, HasAsked}
+use Rattle.round_nodes.specs.declared.table.Node.{Node}
+use Rattle.round_nodes.specs.declared.table.Phase.TheVariants as phase
+use Rattle.round_nodes.specs.declared.table.OpenNodes.{OpenNodes}
+use Rattle.round.specs.Frames.{KeepsSettled, KeepsRunning, KeepsOthersBut}
+use Rattle.round_nodes.specs.Members.{no_cycle, plain_value, all_values, AreAnswers, Answers}
+use Rattle.round.specs.Moves.{IsInOrder}
 use Rattle.round.specs.NodeStates.{IsPaused, NodeStates, ArePaused, FewerKept, HasState, DropsState, PutsState, SameStates, TakesOut, NeedsValues, kept_answers, Keeps}
 use Rattle.round.specs.Turning.{IsOutWith, IsOutAt}
-use Rattle.open_nodes.proofs.Grouping.{never_none}
+use Rattle.round_nodes.proofs.Grouping.{never_none}
 use Rattle.round.proofs.Wanting.{some_there, none_there}
 
 -- each of these is there
@@ -72,8 +72,8 @@ module _ (old new : GraphView) (keeps : KeepsSettled old new) where
   pub answers_stay : (groups : List (List Key)) (answers : List Value) → AreAnswers (record_at old) groups answers → AreAnswers (record_at new) groups answers
   answers_stay groups answers a = sym (all_stay groups (subst AllSome (sym a) (some_all answers))) ∙ a
 
--- a move leaves states that are kept as they are
-pub paused_on : (old new : GraphView) (before later : Table) → KeepsSettled old new × KeepsRunning before later → (k : Key) (w : Waits) → IsPaused old before k w → IsPaused new later k w
+-- a step leaves states that are kept as they are
+pub paused_on : (old new : GraphView) (before later : OpenNodes) → KeepsSettled old new × KeepsRunning before later → (k : Key) (w : Waits) → IsPaused old before k w → IsPaused new later k w
 paused_on old new before later f k w p = let n = f.1 k p.node p.there p.running in record {
   same_key = p.same_key;
   node = n.0;
@@ -85,21 +85,21 @@ paused_on old new before later f k w p = let n = f.1 k p.node p.there p.running 
   answered = answers_stay old new f.0 p.passed w.answers p.answered;
 }
 
-pub are_paused_on : (old new : GraphView) (before later : Table) (kept : NodeStates) → KeepsSettled old new × KeepsRunning before later → ArePaused old before kept → ArePaused new later kept
+pub are_paused_on : (old new : GraphView) (before later : OpenNodes) (kept : NodeStates) → KeepsSettled old new × KeepsRunning before later → ArePaused old before kept → ArePaused new later kept
 are_paused_on old new before later kept f a k w e = paused_on old new before later f k w (a k w e)
 
 -- a state that is kept has its node's key
-pub of_key : (graph : GraphView) (table : Table) (key : Key) (paused : Option Waits) → IfSome paused (IsPaused graph table key) → IfSome paused (λ w. w.key ≡ key)
+pub of_key : (graph : GraphView) (table : OpenNodes) (key : Key) (paused : Option Waits) → IfSome paused (IsPaused graph table key) → IfSome paused (λ w. w.key ≡ key)
 of_key graph table key (Some w) p = p.same_key
 of_key graph table key None p = tt
 
-pub none_paused : (graph : GraphView) (table : Table) (kept : NodeStates) → kept.entries ≡ [] → ArePaused graph table kept
+pub none_paused : (graph : GraphView) (table : OpenNodes) (kept : NodeStates) → kept.entries ≡ [] → ArePaused graph table kept
 none_paused graph table kept q k w e = absurd (none_some (sym empty ∙ e))
   where
     empty : get key_eq kept k ≡ None
     empty = rw q refl
 
-pub fewer_paused : (graph : GraphView) (table : Table) (old new : NodeStates) → FewerKept old new → ArePaused graph table old → ArePaused graph table new
+pub fewer_paused : (graph : GraphView) (table : OpenNodes) (old new : NodeStates) → FewerKept old new → ArePaused graph table old → ArePaused graph table new
 fewer_paused graph table old new f a k w e = a k w (f k w e)
 
 not_both : (n : Node) → n.phase ≡ phase.Running → n.phase ≡ phase.Out → ⊥
@@ -109,11 +109,11 @@ not_both n p q = no (sym p ∙ q)
     no e = cc
 
 -- a node whose state is kept has no job out
-pub kept_not_out : (graph : GraphView) (table : Table) (kept : NodeStates) (key : Key) → ArePaused graph table kept → HasState kept key → IsOutAt table key → ⊥
+pub kept_not_out : (graph : GraphView) (table : OpenNodes) (kept : NodeStates) (key : Key) → ArePaused graph table kept → HasState kept key → IsOutAt table key → ⊥
 kept_not_out graph table kept key a h o = let p = a key h.0 h.1 in not_both p.node p.running (ap (λ (n : Node). n.phase) (some_is (sym p.there ∙ o.1)) ∙ o.2)
 
 -- a job is handed out whose state is kept no more
-pub handed_paused : (graph : GraphView) (before later : Table) (kept : NodeStates) (key : Key) (n : Node) → node_at before.nodes key ≡ Some n → HasPhase before.nodes later.nodes key phase.Out → get key_eq kept key ≡ None → ArePaused graph before kept → ArePaused graph later kept
+pub handed_paused : (graph : GraphView) (before later : OpenNodes) (kept : NodeStates) (key : Key) (n : Node) → node_at before.nodes key ≡ Some n → HasPhase before.nodes later.nodes key phase.Out → get key_eq kept key ≡ None → ArePaused graph before kept → ArePaused graph later kept
 handed_paused graph before later kept key n there h gone a k w e = let p = a k w e in elim (decide_key key k) [
   | inl q ↦ absurd (none_some (sym gone ∙ ap (get key_eq kept) q ∙ e))
   | inr d ↦ record {
@@ -128,8 +128,8 @@ handed_paused graph before later kept key n there h gone a k w e = let p = a k w
   }
 ]
 
--- a turn that asked a group leaves a state
-pub asked_paused : (graph : GraphView) (before later : Table) (key : Key) (answers : List Value) (o : IsOutWith graph before key answers) (group : List Key) → HasAsked before.nodes later.nodes key group → (w : Waits) → w.key ≡ key → w.answers ≡ answers → IsPaused graph later key w
+-- a turn that asked for a group leaves a state
+pub asked_paused : (graph : GraphView) (before later : OpenNodes) (key : Key) (answers : List Value) (o : IsOutWith graph before key answers) (group : List Key) → HasAsked before.nodes later.nodes key group → (w : Waits) → w.key ≡ key → w.answers ≡ answers → IsPaused graph later key w
 asked_paused graph before later key answers o group h w q e = let n = h o.node o.there in record {
   same_key = q;
   node = n.0;
@@ -146,7 +146,7 @@ all_values-append records [] ys = refl
 all_values-append records (x ∷ xs) ys = ap (λ r. map (λ k. plain_value (records k)) x ++ r) (all_values-append records xs ys) ∙ sym (append_assoc (map (λ k. plain_value (records k)) x) (all_values records xs) (all_values records ys))
 
 -- the state's answers and those to the last group are all
-module _ (graph : GraphView) (table : Table) (k : Key) (w : Waits) (p : IsPaused graph table k w) (whole : IsWholeNow graph table) (ready : In k table.ready.keys) where
+module _ (graph : GraphView) (table : OpenNodes) (k : Key) (w : Waits) (p : IsPaused graph table k w) (whole : IsInOrder graph table) (ready : In k table.ready.keys) where
   same_node : (n : Node) → node_at table.nodes k ≡ Some n → groups_of n ≡ p.passed ++ p.group ∷ []
   same_node n e = ap groups_of (some_is (sym e ∙ p.there)) ∙ p.split
 
@@ -245,14 +245,14 @@ drops_state old new key u false e = λ k. elim (same_or_key old new key None u k
 ]
 
 -- what is kept with one more state
-pub kept_paused : (graph : GraphView) (table : Table) (old new : NodeStates) (key : Key) (paused : Option Waits) → Keeps old new key paused → ArePaused graph table old → ((w : Waits) → paused ≡ Some w → IsPaused graph table key w) → ArePaused graph table new
+pub kept_paused : (graph : GraphView) (table : OpenNodes) (old new : NodeStates) (key : Key) (paused : Option Waits) → Keeps old new key paused → ArePaused graph table old → ((w : Waits) → paused ≡ Some w → IsPaused graph table key w) → ArePaused graph table new
 kept_paused graph table old new key paused h a f k w e = elim (h k w e) [
   | inl o ↦ a k w o
   | inr p ↦ subst (λ x. IsPaused graph table x w) p.0 (f w p.1)
 ]
 
 -- jobs that are out stay out, where another one comes back
-pub jobs_stay : (key : Key) (old new : GraphView) (before later : Table) → KeepsFrameBut key old new before later → (k : Key) (answers : List Value) → key ≢ k → IsOutWith old before k answers → IsOutWith new later k answers
+pub jobs_stay : (key : Key) (old new : GraphView) (before later : OpenNodes) → KeepsOthersBut key old new before later → (k : Key) (answers : List Value) → key ≢ k → IsOutWith old before k answers → IsOutWith new later k answers
 jobs_stay key old new before later f k answers other o = let m = f.2 k o.node other o.there o.out in record {
   node = m.0;
   there = m.1;
@@ -261,7 +261,7 @@ jobs_stay key old new before later f k answers other o = let m = f.2 k o.node ot
 }
 
 -- jobs that are out stay out, where one is handed out
-pub jobs_beside : (graph : GraphView) (before later : Table) (key : Key) (n : Node) → node_at before.nodes key ≡ Some n → n.phase ≡ phase.Running → HasPhase before.nodes later.nodes key phase.Out
+pub jobs_beside : (graph : GraphView) (before later : OpenNodes) (key : Key) (n : Node) → node_at before.nodes key ≡ Some n → n.phase ≡ phase.Running → HasPhase before.nodes later.nodes key phase.Out
     → (k : Key) (answers : List Value) → IsOutWith graph before k answers → IsOutWith graph later k answers
 jobs_beside graph before later key n there running h k answers o = elim (decide_key key k) [
   | inl q ↦ absurd (not_both n running (ap (λ (x : Node). x.phase) (some_is (sym there ∙ ap (node_at before.nodes) q ∙ o.there)) ∙ o.out))

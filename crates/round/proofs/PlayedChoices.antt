@@ -1,30 +1,30 @@
 -- A list of choices, one more.
 use Rattle.std.proofs.Common.{◌≡◌, ◌⊎◌, inl, inr, ℕ, ◌+◌, ◌-◌, ◌<◌, ◌≤◌, nat_lt, List, [], ◌∷◌, ◌++◌, Bool, true, false, Err, refl, sym, ◌∙◌, ap, subst, arith, length}
 use Rattle.std.specs.Result.{IsErrOf}
-use Rattle.evaluation.specs.Value.{In, first, AllDiffer}
-use Rattle.evaluation.specs.Choices as choices
+use Rattle.engine_semantics.specs.Value.{In, first, AllDiffer}
+use Rattle.engine_semantics.specs.Choices as choices
 use Rattle.keys.specs.Jobs.{Outcome}
 use Rattle.keys.specs.declared.key.Key.{Key}
 use Rattle.node.specs.Graphs.{GraphView}
-use Rattle.open_nodes.proofs.Settlings.{in_map}
-use Rattle.open_nodes.specs.Nodes.{IsOpen}
-use Rattle.open_nodes.specs.TurnCounts.{HasMade}
+use Rattle.round_nodes.proofs.Settlings.{in_map}
+use Rattle.round_nodes.specs.Nodes.{IsOpen}
+use Rattle.round_nodes.specs.TurnCounts.{HasMade}
 use Rattle.round.specs.Playing.{turn_keys, AreOutTurns, IsPlaying, HasHanded, CountsIf}
-use Rattle.round.specs.Replays.{chosen, newest_after, hands, hand_of}
+use Rattle.round.specs.Replays.{choice_view, newest_after, hands, hand_of}
 use Rattle.round.specs.declared.choice.Choice.{Choice}
-use Rattle.round.specs.Rounds.{Standing, standing, IsStalled}
+use Rattle.round.specs.Rounds.{RoundView, round_view, IsStalled}
 use Rattle.round.specs.declared.rounds.Round.{Round}
 
-pub newest_snoc : (earlier : List (choices.Choice Key)) (made : List Choice) (c : Choice) → newest_after earlier (made ++ c ∷ []) ≡ chosen c ∷ newest_after earlier made
+pub newest_snoc : (earlier : List (choices.Choice Key)) (made : List Choice) (c : Choice) → newest_after earlier (made ++ c ∷ []) ≡ choice_view c ∷ newest_after earlier made
 newest_snoc earlier [] c = refl
-newest_snoc earlier (x ∷ made) c = newest_snoc (chosen x ∷ earlier) made c
+newest_snoc earlier (x ∷ made) c = newest_snoc (choice_view x ∷ earlier) made c
 
 pub hands_snoc : (made : List Choice) (c : Choice) → hands (made ++ c ∷ []) ≡ hands made + hand_of c
 hands_snoc [] c = let z : hand_of c + 0 ≡ 0 + hand_of c = omega arith in z
 hands_snoc (x ∷ made) c = let h = hands_snoc made c in omega (arith, h)
 
 -- no turn is out where no job is
-pub none_out : (graph : GraphView) (s : Standing) (turns : List Outcome) → turns ≡ [] → s.out ≡ [] → AreOutTurns graph s turns
+pub none_out : (graph : GraphView) (s : RoundView) (turns : List Outcome) → turns ≡ [] → s.out ≡ [] → AreOutTurns graph s turns
 none_out graph s turns e o = record {
   each = λ t i. elim (subst (λ (xs : List Outcome). In t xs) e i) [ ];
   all = λ k i. elim (subst (λ (xs : List Key). In k xs) o i) [ ];
@@ -32,7 +32,7 @@ none_out graph s turns e o = record {
 }
 
 -- where a round is not at a stall, a node is open
-pub one_open : {R S : Type 0} (graph : GraphView) (round : Round R S) (turns : List Outcome) → IsPlaying graph round turns → (IsStalled (standing round) → ⊥) → (k : Key) × IsOpen round.table.nodes k
+pub one_open : {R S : Type 0} (graph : GraphView) (round : Round R S) (turns : List Outcome) → IsPlaying graph round turns → (IsStalled (round_view round) → ⊥) → (k : Key) × IsOpen round.table.nodes k
 one_open graph round turns p n = go round.table.ready.keys refl round.out refl
   where
     go : (ready : List Key) → round.table.ready.keys ≡ ready → (out : List Key) → round.out ≡ out → (k : Key) × IsOpen round.table.nodes k
@@ -44,7 +44,7 @@ one_open graph round turns p n = go round.table.ready.keys refl round.out refl
         (x.0.asked.key, (o.node, o.there))
 
 -- where no job is out, no turn is
-pub no_turns : {R S : Type 0} (graph : GraphView) (round : Round R S) (turns : List Outcome) → IsPlaying graph round turns → (standing round).out ≡ [] → turns ≡ []
+pub no_turns : {R S : Type 0} (graph : GraphView) (round : Round R S) (turns : List Outcome) → IsPlaying graph round turns → (round_view round).out ≡ [] → turns ≡ []
 no_turns graph round turns p none = go turns refl
   where
     go : (ts : List Outcome) → turns ≡ ts → turns ≡ []

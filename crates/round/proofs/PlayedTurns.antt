@@ -1,22 +1,22 @@
 -- Turns that did not come back.
 use Rattle.std.proofs.Common.{◌≡◌, ◌≢◌, inl, inr, ℕ, suc, ◌≤◌, ◌+◌, List, [], ◌∷◌, ◌++◌, map, length, take, drop, Some, refl, sym, ◌∙◌, ap, subst, arith, slice_index_or}
 use Rattle.std.specs.List.{AllByRecursion}
-use Rattle.evaluation.specs.Value.{In, first, after, AllDiffer}
-use Rattle.evaluation.proofs.Deciding.{length_snoc}
+use Rattle.engine_semantics.specs.Value.{In, first, after, AllDiffer}
+use Rattle.engine_semantics.proofs.Deciding.{length_snoc}
 use Rattle.keys.specs.Jobs.{JobView, Outcome}
 use Rattle.keys.specs.declared.key.Key.{Key}
 use Rattle.node.specs.Edges.{IsAdded, IsRemoved}
 use Rattle.node.specs.Graphs.{GraphView}
 use Rattle.node.proofs.Lists.{in_split, in_left, in_right, in_one}
-use Rattle.open_nodes.proofs.Settlings.{in_map, map_in, differ_snoc, map_snoc}
+use Rattle.round_nodes.proofs.Settlings.{in_map, map_in, differ_snoc, map_snoc}
 use Rattle.round.specs.Playing.{HasPlace, turn_keys, AreOutTurns}
-use Rattle.round.specs.Rounds.{Standing, IsOfJobOut}
+use Rattle.round.specs.Rounds.{RoundView, IsOfJobOut}
 use Rattle.round.proofs.Confirming.{take_whole}
-use Rattle.open_nodes.proofs.Grouping.{split_at}
+use Rattle.round_nodes.proofs.Grouping.{split_at}
 use Rattle.round.proofs.Reaching.{rest_is}
 
 -- one turn more
-pub one_more : (graph : GraphView) (before later : Standing) (turns new : List Outcome) (turn : Outcome) → AreOutTurns graph before turns → new ≡ turns ++ turn ∷ [] → ((job : JobView) → IsOfJobOut graph before job → IsOfJobOut graph later job)
+pub one_more : (graph : GraphView) (before later : RoundView) (turns new : List Outcome) (turn : Outcome) → AreOutTurns graph before turns → new ≡ turns ++ turn ∷ [] → ((job : JobView) → IsOfJobOut graph before job → IsOfJobOut graph later job)
     → IsOfJobOut graph later turn.asked → IsAdded before.out later.out turn.asked.key → ((job : JobView) → IsOfJobOut graph before job → job.key ≢ turn.asked.key) → AreOutTurns graph later new
 one_more graph before later turns new turn a e stays own added apart = record {
   each = λ x i. elim (in_split (subst (λ (xs : List Outcome). In x xs) e i) turns (turn ∷ []) refl) [
@@ -92,7 +92,7 @@ pub all_taken : (xs : List Outcome) (n : ℕ) → length xs ≤ n → take n xs 
 all_taken xs n h = take_whole xs n h
 
 -- one turn comes back
-module _ (old new : GraphView) (before later : Standing) (left : List Outcome) (turn : Outcome) (right : List Outcome) (a : AreOutTurns old before (left ++ turn ∷ right))
+module _ (old new : GraphView) (before later : RoundView) (left : List Outcome) (turn : Outcome) (right : List Outcome) (a : AreOutTurns old before (left ++ turn ∷ right))
     (stays : (job : JobView) → turn.asked.key ≢ job.key → IsOfJobOut old before job → IsOfJobOut new later job) (removed : IsRemoved before.out later.out turn.asked.key) where
   keys : turn_keys (left ++ turn ∷ right) ≡ turn_keys left ++ turn.asked.key ∷ turn_keys right
   keys = map_join (λ (t : Outcome). t.asked.key) left (turn ∷ right)

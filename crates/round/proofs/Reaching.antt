@@ -1,29 +1,29 @@
 -- The group that a node waits for is one that it asks at these files, so its members are reached.
 use Rattle.std.proofs.Common.{◌≡◌, ◌≤◌, List, [], ◌∷◌, ◌++◌, length, take, Option, Some, sym, ◌∙◌, ap, subst}
-use Rattle.evaluation.specs.Reply.{Reply, Ask}
-use Rattle.evaluation.specs.Value.{AllGrounded, In, IsMember}
-use Rattle.evaluation.specs.Graph.{Record, IsLawful}
-use Rattle.evaluation.specs.Choices.{Choice, Comes, stay, asks}
-use Rattle.evaluation.specs.Choices as choices
-use Rattle.evaluation.proofs.Deciding.{length_snoc}
-use Rattle.evaluation.specs.Reachability.{AsksGroup, member}
-use Rattle.evaluation.proofs.Passing.{pass_comes}
-use Rattle.evaluation.proofs.ChangePruning.{Same}
-use Rattle.evaluation.proofs.Touch.{each_member}
+use Rattle.engine_semantics.specs.Reply.{Reply, Ask}
+use Rattle.engine_semantics.specs.Value.{AllGrounded, In, IsMember}
+use Rattle.engine_semantics.specs.Graph.{Record, IsConsistent}
+use Rattle.engine_semantics.specs.Choices.{Choice, Comes, stay, asks}
+use Rattle.engine_semantics.specs.Choices as choices
+use Rattle.engine_semantics.proofs.Deciding.{length_snoc}
+use Rattle.engine_semantics.specs.Reachability.{AsksGroup, member}
+use Rattle.engine_semantics.proofs.Passing.{pass_comes}
+use Rattle.engine_semantics.proofs.ChangePruning.{Same}
+use Rattle.engine_semantics.proofs.Touch.{each_member}
 use Rattle.keys.specs.Cycles.{cycle}
 use Rattle.keys.proofs.CycleLaws.{turned}
 use Rattle.keys.specs.declared.key.Key.{Key}
 use Rattle.keys.specs.declared.value.Value.{Value}
 use Rattle.node.specs.Graphs.{GraphView, record_at}
 use Rattle.node.proofs.Lists.{some_is, in_left}
-use Rattle.open_nodes.specs.Nodes.{Nodes, node_at, groups_of, pending, IsStill, Stands, Holds, IsCurrent, IsWhole}
-use Rattle.open_nodes.specs.Truths.{IsNext, Past, AreSought, IsWantedBy, Asks, nothing, last, more, IsDoing, IsTrueOf}
-use Rattle.open_nodes.specs.declared.run.Run.{Run}
-use Rattle.open_nodes.specs.declared.table.Node.{Node}
-use Rattle.open_nodes.specs.declared.table.Phase.{Phase}
-use Rattle.open_nodes.specs.declared.table.Phase.TheVariants as phase
-use Rattle.open_nodes.specs.declared.table.Table.{Table}
-use Rattle.open_nodes.proofs.Settlings.{now_is, plain}
+use Rattle.round_nodes.specs.Nodes.{Nodes, node_at, groups_of, pending, IsStill, Stands, Holds, IsCurrent, IsWhole}
+use Rattle.round_nodes.specs.Invariants.{IsNext, Past, AreSought, IsWantedBy, Asks, nothing, last, more, IsDoing, IsTrueOf}
+use Rattle.round_nodes.specs.declared.run.Run.{Run}
+use Rattle.round_nodes.specs.declared.table.Node.{Node}
+use Rattle.round_nodes.specs.declared.table.Phase.{Phase}
+use Rattle.round_nodes.specs.declared.table.Phase.TheVariants as phase
+use Rattle.round_nodes.specs.declared.table.OpenNodes.{OpenNodes}
+use Rattle.round_nodes.proofs.Settlings.{now_is, plain}
 use Rattle.round.specs.Looks.{IsAwaiting}
 
 -- what is left of a list that is known
@@ -32,7 +32,7 @@ rest_is [] ys zs e = e
 rest_is (x ∷ xs) ys zs e = let q : xs ++ ys ≡ xs ++ zs = cc in rest_is xs ys zs q
 
 module _ (next : Key → List Value → Reply Key Value) (read : Key → Option Value) (laws : IsNext next) (past : Past read) (cs : List (Choice Key)) where
-  -- k comes through the groups, and asks the group next
+  -- k comes through the groups, and asks for the group next
   abbrev pub AsksAfter : Key → List Value → List (List Key) → List Key → Type 0
   AsksAfter k a passed group = (b : List Value) × Comes next cycle read k a passed b × (next k b ≡ Ask group)
 
@@ -61,7 +61,7 @@ module _ (next : Key → List Value → Reply Key Value) (read : Key → Option 
         let same : s.0 ≡ d.of_j = some_is (sym s.1 ∙ d.recorded) in
         (d.of_j.value, d.unchanged (subst (λ (x : Record Key Value). x.changed_at ≤ r.settled_at) same s.3), (d.of_j.groups, (t.after.lawful.each j d.of_j d.recorded).clean (ap (λ (x : Record Key Value). x.dirty) (sym same) ∙ s.2))))))
       where
-        law : IsLawful next cycle past.reads (record_at graph) graph.version k r
+        law : IsConsistent next cycle past.reads (record_at graph) graph.version k r
         law = t.after.lawful.each k r e
 
     pub current_comes : (k : Key) (n : Node) → node_at nodes k ≡ Some n → Holds (record_at graph) nodes → (group : List Key) → IsCurrent (record_at graph) k (groups_of n) n.phase group
@@ -81,7 +81,7 @@ module _ (next : Key → List Value → Reply Key Value) (read : Key → Option 
     current_asked k n there holds group current = let c = current_comes k n there holds group current in
         record { no_leaf = (t.opened k n there).no_leaf; passed = c.0; answers = c.1.0; comes = c.1.1; asks = c.1.2 }
 
-    -- and its members are wanted
+    -- and its members are opened
     pub current_wants : (k : Key) (n : Node) → node_at nodes k ≡ Some n → (group : List Key) → IsCurrent (record_at graph) k (groups_of n) n.phase group → (j : Key) → In j group → IsWantedBy next read past cs j
     current_wants k n there group current j i = let o = t.opened k n there in choices.member (go n.phase o.doing current) i
       where
@@ -96,7 +96,7 @@ module _ (next : Key → List Value → Reply Key Value) (read : Key → Option 
         go phase.Out d c = absurd c
 
   -- what a node waits for is reached
-  pub missing_reached : (graph : GraphView) (table : Table) (k : Key) (missing : List Key) → IsTrueOf next read past cs graph table.nodes table.runs.items
+  pub missing_reached : (graph : GraphView) (table : OpenNodes) (k : Key) (missing : List Key) → IsTrueOf next read past cs graph table.nodes table.runs.items
       → IsWhole (record_at graph) table.nodes table.ready.keys (k ∷ pending table) → IsAwaiting graph table k missing → AreSought next read past cs missing
   missing_reached graph table k missing t w a j i = (
     member (t.opened k a.node a.there).reached (current_asked graph table.nodes table.runs.items t k a.node a.there w.holds a.group a.current) (a.of_group.among j i),

@@ -1,35 +1,35 @@
 -- An evaluation on one thread, between two turns.
 use Rattle.std.proofs.Common.{◌≡◌, ◌⊎◌, inl, inr, ℕ, suc, true, false, cond, List, [], ◌∷◌, Option, Some, None, refl, sym, ◌∙◌, ap, subst}
-use Rattle.evaluation.specs.Reply.{Reply}
-use Rattle.evaluation.specs.Value.{In, first, after, AllDiffer}
-use Rattle.evaluation.specs.Graph.{Record}
-use Rattle.evaluation.specs.Choices.{Choice, Backs, nothing, back, other}
-use Rattle.evaluation.specs.Choices as choices
-use Rattle.evaluation.specs.Reachability.{root, member}
-use Rattle.evaluation.proofs.Groups.{asked_recorded}
+use Rattle.engine_semantics.specs.Reply.{Reply}
+use Rattle.engine_semantics.specs.Value.{In, first, after, AllDiffer}
+use Rattle.engine_semantics.specs.Graph.{Record}
+use Rattle.engine_semantics.specs.Choices.{Choice, Backs, nothing, back, other}
+use Rattle.engine_semantics.specs.Choices as choices
+use Rattle.engine_semantics.specs.Reachability.{root, member}
+use Rattle.engine_semantics.proofs.Groups.{asked_recorded}
 use Rattle.keys.specs.Cycles.{cycle}
 use Rattle.keys.specs.declared.key.Key.{Key}
 use Rattle.keys.specs.declared.value.Value.{Value}
 use Rattle.node.specs.Graphs.{GraphView, record_at, present}
 use Rattle.node.proofs.Lists.{none_some, some_is, true_false}
-use Rattle.node.specs.Laws.{IsLawfulFor}
-use Rattle.open_nodes.specs.Nodes.{Records, node_at, IsOpen, IsUnsettled, IsClean, AreOut}
-use Rattle.open_nodes.specs.TurnCounts.{turns_of, HasMade}
-use Rattle.open_nodes.specs.Truths.{IsNext, Past, IsReached, AreSought, IsAfter, IsTrueOf, IsTrueAtEnd, run_keys}
-use Rattle.open_nodes.specs.declared.table.Table.{Table}
-use Rattle.open_nodes.proofs.Counting.{none_made, all_made}
-use Rattle.open_nodes.proofs.Orders.{none_stands}
-use Rattle.open_nodes.proofs.Settlings.{clean_settles}
-use Rattle.open_nodes.proofs.Wholes.{unsettled_not_clean}
+use Rattle.node.specs.Laws.{IsConsistentFor}
+use Rattle.round_nodes.specs.Nodes.{Records, node_at, IsOpen, IsUnsettled, IsClean, AreOut}
+use Rattle.round_nodes.specs.TurnCounts.{turns_of, HasMade}
+use Rattle.round_nodes.specs.Invariants.{IsNext, Past, IsReached, AreSought, IsAfter, IsTrueOf, IsTrueAtEnd, run_keys}
+use Rattle.round_nodes.specs.declared.table.OpenNodes.{OpenNodes}
+use Rattle.round_nodes.proofs.Counting.{none_made, all_made}
+use Rattle.round_nodes.proofs.Orders.{none_stands}
+use Rattle.round_nodes.proofs.Settlings.{clean_settles}
+use Rattle.round_nodes.proofs.Wholes.{unsettled_not_clean}
 use Rattle.round.specs.Call.{IsCall, IsHistory}
 use Rattle.round.specs.Since.{IsFresh}
-use Rattle.round.specs.Moves.{IsWholeNow, IsWanted}
+use Rattle.round.specs.Moves.{IsInOrder, IsOpenOrSettled}
 
-module _ (graph : GraphView) (table : Table) (f : IsFresh table) where
+module _ (graph : GraphView) (table : OpenNodes) (f : IsFresh table) where
   none_open : (k : Key) → IsOpen table.nodes k → ⊥
   none_open k o = none_some (sym (f.none_open k) ∙ o.1)
 
-  pub fresh_whole : IsWholeNow graph table
+  pub fresh_whole : IsInOrder graph table
   fresh_whole = record {
     holds = λ k n e. absurd (none_open k (n, e));
     ready_now = λ k i. elim (subst (In k) f.none_ready i) [ ];
@@ -44,7 +44,7 @@ module _ (graph : GraphView) (table : Table) (f : IsFresh table) where
 
   pub fresh_true : (next : Key → List Value → Reply Key Value) (read : Key → Option Value) (roots : List Key) (past : Past read) → IsHistory next read past roots graph → IsTrueOf next read past [] graph table.nodes table.runs.items
   fresh_true next read roots past h = record {
-    before = subst (IsLawfulFor next past.reads past.edits) (sym h.at_entry) h.lawful;
+    before = subst (IsConsistentFor next past.reads past.edits) (sym h.at_entry) h.lawful;
     after = record {
       version = ap (λ (g : GraphView). g.version) (sym h.at_entry);
       lawful = h.lawful;
@@ -64,7 +64,7 @@ module _ (graph : GraphView) (table : Table) (f : IsFresh table) where
       none_back e (back b) = cc
       none_back e (other b) = cc
 
--- the roots are reached, and wanted
+-- the roots are reached, and opened
 pub roots_reached : (next : Key → List Value → Reply Key Value) (read : Key → Option Value) (roots : List Key) (past : Past read) (graph : GraphView) → IsHistory next read past roots graph → AreSought next read past [] roots
 roots_reached next read roots past graph h k i = (root (subst (In k) (sym h.of_roots) i), choices.root (subst (In k) (sym h.of_roots) i))
 
@@ -107,7 +107,7 @@ decide_settled records (x ∷ keys) = go (present (records x)) refl (decide_sett
     go (Some v) e (inr u) = inr (u.0, after u.1, u.2)
 
 -- where a node is open, a root is
-pub root_open : (next : Key → List Value → Reply Key Value) (read : Key → Option Value) (laws : IsNext next) (past : Past read) (cs : List (Choice Key)) (graph : GraphView) (table : Table) → IsWholeNow graph table → IsTrueOf next read past cs graph table.nodes table.runs.items
+pub root_open : (next : Key → List Value → Reply Key Value) (read : Key → Option Value) (laws : IsNext next) (past : Past read) (cs : List (Choice Key)) (graph : GraphView) (table : OpenNodes) → IsInOrder graph table → IsTrueOf next read past cs graph table.nodes table.runs.items
     → (k : Key) → IsOpen table.nodes k → (j : Key) × In j past.roots × IsUnsettled (record_at graph) j
 root_open next read laws past cs graph table w t k o = elim (decide_settled (record_at graph) past.roots) [
   | inr u ↦ u
@@ -116,9 +116,9 @@ root_open next read laws past cs graph table w t k o = elim (decide_settled (rec
 ]
 
 -- at the end: no node is open
-module _ (next : Key → List Value → Reply Key Value) (read : Key → Option Value) (laws : IsNext next) (past : Past read) (graph : GraphView) (table : Table)
+module _ (next : Key → List Value → Reply Key Value) (read : Key → Option Value) (laws : IsNext next) (past : Past read) (graph : GraphView) (table : OpenNodes)
     (none : (k : Key) → node_at table.nodes k ≡ None) where
-  pub call_ends : (roots : List Key) → past.roots ≡ roots → ((k : Key) → In k roots → IsWanted graph table k) → IsTrueAtEnd next read past graph table.runs.items → IsCall next read past graph table.runs.items
+  pub call_ends : (roots : List Key) → past.roots ≡ roots → ((k : Key) → In k roots → IsOpenOrSettled graph table k) → IsTrueAtEnd next read past graph table.runs.items → IsCall next read past graph table.runs.items
   call_ends roots e wanted t = record {
     after = t.after;
     answered = λ k i. let c = root_clean k i in (c.0, c.1, c.2, (c.0.groups, clean_settles next read laws past graph t.after k c.0 c.1 c.2));
@@ -138,5 +138,5 @@ module _ (next : Key → List Value → Reply Key Value) (read : Key → Option 
       root_clean : (k : Key) → In k past.roots → IsClean (record_at graph) k
       root_clean k i = elim (wanted k (subst (In k) e i)) [ inl o ↦ absurd (none_some (sym (none k) ∙ o.1)) | inr c ↦ c ]
 
-pub ends_made : (table : Table) (made : ℕ) → ((k : Key) → node_at table.nodes k ≡ None) → HasMade table made → made ≡ turns_of table.runs.items
+pub ends_made : (table : OpenNodes) (made : ℕ) → ((k : Key) → node_at table.nodes k ≡ None) → HasMade table made → made ≡ turns_of table.runs.items
 ends_made table made none h = all_made table made (λ k o. none_some (sym (none k) ∙ o.1)) h

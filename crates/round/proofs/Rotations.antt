@@ -1,16 +1,16 @@
--- The least of a loop's labels, found by going over them once.
+-- The least of a cycle's labels, found by going over them once.
 use Rattle.std.proofs.Common.{◌≡◌, ℕ, ◌+◌, ◌<◌, ◌≤◌, true, false, List, [], ◌∷◌, ◌++◌, Option, refl, sym, ◌∙◌, ap, subst, length, take, drop, slice_index_or, append_assoc, arith, ◌==◌}
 use Rattle.std.specs.List.{AllByRecursion, filter_map, cons_option}
 use Rattle.std.proofs.Math.Seq.{take_all, drop-append_seam, take-append_seam, get_or-append_seam}
 use Rattle.std.proofs.lemmas.List.{take-append-drop, length-append, length-take-le}
 use Rattle.std.proofs.lemmas.List.Elements.{filter_map-append}
-use Rattle.evaluation.specs.Rotation.{is_least, text_le, rotated}
-use Rattle.evaluation.proofs.Rotating.{rotated_from, least_stays, least_moves, greater_than, least_alone}
+use Rattle.engine_semantics.specs.Rotation.{is_least, text_le, rotated}
+use Rattle.engine_semantics.proofs.Rotating.{rotated_from, least_stays, least_moves, greater_than, least_alone}
 use Rattle.keys.specs.Cycles.{label_of}
 use Rattle.keys.specs.declared.key.Key.{Key}
 use Rattle.node.proofs.Reaching.{one_more}
 
--- the first least of these texts stands at this place
+-- the first least of these texts is at this place
 pub record IsBest (seen : List (List ℕ)) (best : ℕ) : Type 0 where
   pub before : List (List ℕ)
   pub least : List ℕ

@@ -1,4 +1,4 @@
--- A round beside its graph.
+-- A round with its graph.
 use Rattle.std.proofs.Common.{◌≡◌, inl, inr, ℕ, ◌+◌, ◌<◌, ◌≤◌, Bool, true, false, ◌&&◌, List, [], ◌∷◌, ◌++◌, map, Option, Some, None, refl, sym, ◌∙◌, ap, subst, length, take, slice_index_or}
 use Rattle.std.specs.Bool.{Decides}
 use Rattle.std.specs.Option.{is_some}
@@ -7,7 +7,7 @@ use Rattle.std.specs.declared.alloc.Global.{Global}
 use Rattle.std.specs.declared.sync.Arc.{Arc}
 use Rattle.std.proofs.Math.Seq.{take_all}
 use lib.Pointwise.{pointwise, pointwise_decides}
-use Rattle.evaluation.specs.Value.{In, first, after, IsMember}
+use Rattle.engine_semantics.specs.Value.{In, first, after, IsMember}
 use Rattle.keys.specs.Turns.{values}
 use Rattle.keys.specs.Values.{value_eq}
 use Rattle.keys.specs.ValueLaws.{exact_values}
@@ -17,22 +17,22 @@ use Rattle.node.specs.Edges.{IsAdded, IsRemoved}
 use Rattle.node.specs.Graphs.{GraphView, record_at}
 use Rattle.node.proofs.Lists.{in_split, in_one, some_is, true_false}
 use Rattle.node.proofs.Reaching.{one_more}
-use Rattle.open_nodes.specs.Nodes.{Nodes, node_at, groups_of, pending, IsOpen, IsPlain, Stands, AreOut}
-use Rattle.open_nodes.specs.declared.table.Node.{Node}
-use Rattle.open_nodes.specs.declared.table.Phase.{Phase}
-use Rattle.open_nodes.specs.declared.table.Phase.TheVariants as phase
-use Rattle.open_nodes.specs.declared.table.Table.{Table}
-use Rattle.open_nodes.specs.Members.{AreAnswers, Answers}
-use Rattle.round.specs.Moves.{IsWholeNow}
+use Rattle.round_nodes.specs.Nodes.{Nodes, node_at, groups_of, pending, IsOpen, IsPlain, Stands, AreOut}
+use Rattle.round_nodes.specs.declared.table.Node.{Node}
+use Rattle.round_nodes.specs.declared.table.Phase.{Phase}
+use Rattle.round_nodes.specs.declared.table.Phase.TheVariants as phase
+use Rattle.round_nodes.specs.declared.table.OpenNodes.{OpenNodes}
+use Rattle.round_nodes.specs.Members.{AreAnswers, Answers}
+use Rattle.round.specs.Moves.{IsInOrder}
 use Rattle.round.specs.Since.{IsFresh}
 use Rattle.round.specs.Frames.{KeepsHandedBut}
 use Rattle.round.specs.Turning.{IsOutAt, IsOutWith}
-use Rattle.open_nodes.proofs.Grouping.{never_none}
+use Rattle.round_nodes.proofs.Grouping.{never_none}
 
-pub is_fresh : (table : Table) → table.nodes.entries ≡ [] → table.ready.keys ≡ [] → pending table ≡ [] → table.runs.items ≡ [] → IsFresh table
+pub is_fresh : (table : OpenNodes) → table.nodes.entries ≡ [] → table.ready.keys ≡ [] → pending table ≡ [] → table.runs.items ≡ [] → IsFresh table
 is_fresh table n r p x = record { none_open = λ k. rw n refl; none_ready = r; none_pending = p; no_runs = x }
 
--- the values behind pointers are the same one by one
+-- the values after pointers are the same one by one
 pointwise_values : (xs ys : List (Arc Value Global)) → pointwise (λ x y. value_eq (arc_value x) (arc_value y)) xs ys ≡ pointwise value_eq (values xs) (values ys)
 pointwise_values [] [] = refl
 pointwise_values [] (y ∷ ys) = refl
@@ -54,7 +54,7 @@ some_values (v ∷ vs) (w ∷ ws) e =
     ap (λ x. x ∷ vs) p ∙ ap (λ xs. w ∷ xs) (some_values vs ws t)
 
 -- whether a job is out with these answers
-module _ (graph : GraphView) (table : Table) (w : IsWholeNow graph table) (k : Key) (slice : List (List Key)) (asked : (n : Node) → node_at table.nodes k ≡ Some n → slice ≡ groups_of n) where
+module _ (graph : GraphView) (table : OpenNodes) (w : IsInOrder graph table) (k : Key) (slice : List (List Key)) (asked : (n : Node) → node_at table.nodes k ≡ Some n → slice ≡ groups_of n) where
   pub out_never_none : (answers : List Value) → IsOutWith graph table k answers → Answers (record_at graph) slice None → ⊥
   out_never_none answers o a = never_none (record_at graph) (groups_of o.node) plain (subst (λ gs. Answers (record_at graph) gs None) (asked o.node o.there) a)
     where
@@ -91,7 +91,7 @@ out_removed nodes old new k key q r o j x e f = elim (r.keeps j (o j x e f)) [
 ]
 
 -- what is out after one less is out still
-pub out_still : (before later : Table) (k : Key) (old new : List Key) → KeepsHandedBut k before later → IsRemoved old new k → ((j : Key) → In j old → IsOutAt before j) → (j : Key) → In j new → IsOutAt later j
+pub out_still : (before later : OpenNodes) (k : Key) (old new : List Key) → KeepsHandedBut k before later → IsRemoved old new k → ((j : Key) → In j old → IsOutAt before j) → (j : Key) → In j new → IsOutAt later j
 out_still before later k old new frame r all j i =
     let o = all j (r.from j i) in
     let n = frame j o.0 (λ q. r.gone (subst (λ x. In x new) (sym q) i)) o.1 o.2 in (n.0, n.1, n.2)

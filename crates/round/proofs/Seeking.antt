@@ -1,21 +1,21 @@
--- What the choices say of keys, told by the graph and the open nodes.
+-- What the choices say of keys, given by the graph and the open nodes.
 use Rattle.std.proofs.Common.{◌≡◌, ◌≢◌, ◌⊎◌, inl, inr, ℕ, ◌<◌, true, false, nat_lt, List, [], ◌∷◌, ◌++◌, Option, Some, refl, sym, ◌∙◌, ap, subst, arith}
-use Rattle.evaluation.specs.Reply.{Reply}
-use Rattle.evaluation.specs.Value.{HasValue, IsMember}
-use Rattle.evaluation.specs.Graph.{Record}
-use Rattle.evaluation.specs.Choices.{Choice, Changed, Unchanged, Settled, clean}
-use Rattle.evaluation.proofs.Justification.{changed_test, unchanged_test}
+use Rattle.engine_semantics.specs.Reply.{Reply}
+use Rattle.engine_semantics.specs.Value.{HasValue, IsMember}
+use Rattle.engine_semantics.specs.Graph.{Record}
+use Rattle.engine_semantics.specs.Choices.{Choice, Changed, Unchanged, Settled, clean}
+use Rattle.engine_semantics.proofs.Justification.{changed_test, unchanged_test}
 use Rattle.keys.specs.Cycles.{cycle}
 use Rattle.keys.specs.declared.key.Key.{Key}
 use Rattle.keys.specs.declared.value.Value.{Value}
 use Rattle.node.specs.Graphs.{GraphView, record_at, IsTouched}
-use Rattle.node.specs.Writes.{change_of, stored}
+use Rattle.node.specs.Writes.{change_of, settled_record}
 use Rattle.node.proofs.Lists.{some_is}
 use Rattle.node.proofs.Lawfulness.{is_change}
-use Rattle.open_nodes.specs.Nodes.{Nodes, IsUnsettled, IsClean, IsStill}
-use Rattle.open_nodes.specs.Truths.{IsNext, Past, IsWantedBy, IsTrueOf, TellsChange}
-use Rattle.open_nodes.specs.declared.run.Run.{Run}
-use Rattle.open_nodes.proofs.Settlings.{now_is, clean_settles, same_since}
+use Rattle.round_nodes.specs.Nodes.{Nodes, IsUnsettled, IsClean, IsStill}
+use Rattle.round_nodes.specs.Invariants.{IsNext, Past, IsWantedBy, IsTrueOf, TellsChange}
+use Rattle.round_nodes.specs.declared.run.Run.{Run}
+use Rattle.round_nodes.proofs.Settlings.{now_is, clean_settles, same_since}
 use Rattle.node.specs.Comparisons.{has_changed}
 
 -- nothing is left of a whole list
@@ -29,7 +29,7 @@ IsChange o value version at = ((r : Record Key Value) × (o ≡ Some r) × (r.va
 
 module _ (next : Key → List Value → Reply Key Value) (read : Key → Option Value) (laws : IsNext next) (past : Past read) (cs : List (Choice Key)) where
   module _ (graph : GraphView) (nodes : Nodes) (runs : List Run) (t : IsTrueOf next read past cs graph nodes runs) where
-    -- a wanted key that is settled in the graph is settled by the choices
+    -- an opened key that is settled in the graph is settled by the choices
     pub settled_by : (j : Key) → IsClean (record_at graph) j → IsWantedBy next read past cs j → Settled next cycle read (record_at past.entry) past.roots cs j
     settled_by j c w = elim (t.after.since j) [
       | inl e ↦ clean w (sym e ∙ c.1) c.2
@@ -69,10 +69,10 @@ module _ (next : Key → List Value → Reply Key Value) (read : Key → Option 
         late e = grind (arith, e)
 
     -- what is stored for a key tells whether its value changed
-    pub stored_change : (new : GraphView) (k : Key) (v : Value) (gs : List (List Key)) → IsUnsettled (record_at graph) k → record_at new k ≡ Some (stored (record_at graph k) v gs graph.version) → TellsChange next read past new k
+    pub stored_change : (new : GraphView) (k : Key) (v : Value) (gs : List (List Key)) → IsUnsettled (record_at graph) k → record_at new k ≡ Some (settled_record (record_at graph k) v gs graph.version) → TellsChange next read past new k
     stored_change new k v gs was there r s e f = go (is_change (record_at graph k) v graph.version)
       where
-        is : stored (record_at graph k) v gs graph.version ≡ r
+        is : settled_record (record_at graph k) v gs graph.version ≡ r
         is = some_is (sym there ∙ e)
 
         had : record_at graph k ≡ Some s

@@ -8,35 +8,35 @@ use Rattle.std.specs.declared.cmp.Ordering.{Ordering}
 use Rattle.std.specs.declared.cmp.Ordering.TheVariants.{Less, Equal, Greater}
 use Rattle.std.specs.Map.{lookup}
 use Rattle.indexmap.specs.IndexMap.{Updates}
-use Rattle.evaluation.specs.Value.{In, first, AllDiffer}
+use Rattle.engine_semantics.specs.Value.{In, first, AllDiffer}
 use Rattle.keys.specs.Keys.{key_cmp, key_eq}
 use Rattle.keys.specs.declared.key.Key.{Key}
 use Rattle.node.specs.Records.{items_of}
 use Rattle.keys.proofs.KeyLaws.{keys_total, exact_keys}
 use Rattle.node.proofs.Lists.{some_is, none_some, true_false, decide_key, other_key as other_stop, in_split, in_left, in_right, in_one}
-use Rattle.open_nodes.proofs.Lookups.{other_key}
-use Rattle.open_nodes.specs.Nodes.{Nodes, Records, node_at, groups_of, IsOpen, Stands, Holds}
-use Rattle.open_nodes.specs.TurnCounts.{turns_of, asked_by, MakesNone}
-use Rattle.open_nodes.specs.Steps.{HasNoted}
-use Rattle.open_nodes.specs.declared.run.Run.{Run}
-use Rattle.open_nodes.specs.declared.table.Node.{Node}
-use Rattle.open_nodes.specs.declared.table.Phase.{Phase}
-use Rattle.open_nodes.specs.declared.table.Phase.TheVariants as phase
-use Rattle.open_nodes.specs.declared.table.Table.{Table}
-use Rattle.open_nodes.proofs.Counting.{turns_snoc, counts_none, makes_on}
-use Rattle.open_nodes.proofs.Orders.{split_snoc, none_stands}
-use Rattle.open_nodes.proofs.Settlings.{differ_snoc, map_snoc, in_map, map_in}
+use Rattle.round_nodes.proofs.Lookups.{other_key}
+use Rattle.round_nodes.specs.Nodes.{Nodes, Records, node_at, groups_of, IsOpen, Stands, Holds}
+use Rattle.round_nodes.specs.TurnCounts.{turns_of, asked_by, MakesNoTurn}
+use Rattle.round_nodes.specs.Steps.{HasNoted}
+use Rattle.round_nodes.specs.declared.run.Run.{Run}
+use Rattle.round_nodes.specs.declared.table.Node.{Node}
+use Rattle.round_nodes.specs.declared.table.Phase.{Phase}
+use Rattle.round_nodes.specs.declared.table.Phase.TheVariants as phase
+use Rattle.round_nodes.specs.declared.table.OpenNodes.{OpenNodes}
+use Rattle.round_nodes.proofs.Counting.{turns_snoc, counts_none, makes_on}
+use Rattle.round_nodes.proofs.Orders.{split_snoc, none_stands}
+use Rattle.round_nodes.proofs.Settlings.{differ_snoc, map_snoc, in_map, map_in}
 use Rattle.round.specs.Closing.{ClosesBy, ClosesWith, HasTurnedBy, HasTurned, StopsIn, stop_at, PutsStop, closing_keys, IsClosed, IsLeast, IsRunOfClosed, AreAscending, HasTaken}
 use Rattle.round.specs.declared.closing.Closing.{Closing}
 use Rattle.round.specs.declared.closing.Stall.{Stall}
-use Rattle.open_nodes.proofs.Grouping.{items_length, snoc_in}
+use Rattle.round_nodes.proofs.Grouping.{items_length, snoc_in}
 
 append_assoc : {X : Type 0} (xs ys zs : List X) → (xs ++ ys) ++ zs ≡ xs ++ (ys ++ zs)
 append_assoc [] ys zs = refl
 append_assoc (x ∷ xs) ys zs = ap (λ w. x ∷ w) (append_assoc xs ys zs)
 
 -- one more node is taken out
-module _ (records : Records) (version : ℕ) (start old new : Table) (stall later : Stall) (h : HasTaken records version start old stall) (holds : Holds records start.nodes)
+module _ (records : Records) (version : ℕ) (start old new : OpenNodes) (stall later : Stall) (h : HasTaken records version start old stall) (holds : Holds records start.nodes)
     (k : Key) (node : Node) (was : node_at old.nodes k ≡ Some node) (u : Updates key_eq old.nodes new.nodes k None) (least : (j : Key) → IsOpen new.nodes j → key_cmp k j ≡ Less)
     (groups : Vec (Vec Key Global) Global) (turned : Bool) (turns : HasTurned node turned) (by : ClosesWith records k node (items_of groups.items))
     (yes : turned ≡ true → new.runs.items ≡ old.runs.items ++ record { key = k; version = version; turns = length groups.items } ∷ [])
@@ -105,7 +105,7 @@ module _ (records : Records) (version : ℕ) (start old new : Table) (stall late
       go phase.Running t b = same b
       go phase.Out t b = same b
 
-  none_more : MakesNone old new
+  none_more : MakesNoTurn old new
   none_more = counts_none old new k (λ j n. other_key old.nodes new.nodes k None u j n) (go turned refl)
     where
       gone_now : asked_by (node_at new.nodes k) ≡ 0
@@ -229,7 +229,7 @@ pub empty_has : {X : Type 0} (m : BTreeMap Key X) → m.entries ≡ [] → (k : 
 empty_has m e k = ap (λ es. lookup (is_at (key_cmp k)) es) e
 
 -- at the start nothing is taken out
-pub none_taken : (records : Records) (version : ℕ) (table : Table) (stall : Stall) → stall.closing.items ≡ [] → ((k : Key) → stop_at stall.stops k ≡ None) → HasTaken records version table table stall
+pub none_taken : (records : Records) (version : ℕ) (table : OpenNodes) (stall : Stall) → stall.closing.items ≡ [] → ((k : Key) → stop_at stall.stops k ≡ None) → HasTaken records version table table stall
 none_taken records version table stall none stops = record {
   closed = λ c i. absurd (no_item (subst (In c) none i));
   gone = λ k i. absurd (no_key (subst (λ (xs : List Closing). In k (closing_keys xs)) none i));
@@ -268,7 +268,7 @@ least_first old new k low u j o = elim (decide_key k j) [
     go Greater e g d = keys_total.antisymm k j ∙ ap ordering_reverse e
 
 -- the same, as the calls leave the table
-pub taken_step : (records : Records) (version : ℕ) (start old popped new : Table) (stall later : Stall) → HasTaken records version start old stall → Holds records start.nodes
+pub taken_step : (records : Records) (version : ℕ) (start old popped new : OpenNodes) (stall later : Stall) → HasTaken records version start old stall → Holds records start.nodes
     → (k : Key) (node : Node) → node_at old.nodes k ≡ Some node → Updates key_eq old.nodes popped.nodes k None → IsLeast old.nodes k → popped.runs.items ≡ old.runs.items
     → (groups : Vec (Vec Key Global) Global) (turned : Bool) → HasTurned node turned → ClosesWith records k node (items_of groups.items)
     → (v n : ℕ) → v ≡ version → n ≡ length groups.items
@@ -279,8 +279,8 @@ taken_step records version start old popped new stall later h holds k node was u
     taken_more records version start old new stall later h holds k node was (subst (λ (x : Nodes). Updates key_eq old.nodes x k None) (same turned refl) u)
     (λ j o. least_first old.nodes popped.nodes k low u j (subst (λ (x : Nodes). IsOpen x j) (sym (same turned refl)) o)) groups turned turns by
     (λ e. (ran e).runs ∙ ap (λ (xs : List Run). xs ++ record { key = k; version = v; turns = n } ∷ []) runs ∙ ap (λ m. old.runs.items ++ record { key = k; version = m; turns = n } ∷ []) now ∙ ap (λ m. old.runs.items ++ record { key = k; version = version; turns = m } ∷ []) count)
-    (λ e. ap (λ (x : Table). x.runs.items) (idle e) ∙ runs) stop stops puts more
+    (λ e. ap (λ (x : OpenNodes). x.runs.items) (idle e) ∙ runs) stop stops puts more
   where
     same : (b : Bool) → turned ≡ b → popped.nodes ≡ new.nodes
     same true e = sym (ran e).nodes
-    same false e = sym (ap (λ (x : Table). x.nodes) (idle e))
+    same false e = sym (ap (λ (x : OpenNodes). x.nodes) (idle e))

@@ -1,31 +1,31 @@
--- A stall as it stands: each open node waits for a member of a group of its own, and stops at the first that has no value.
+-- A stall as it is: each open node waits for a member of a group of its own, and stops at the first that has no value.
 use Rattle.std.proofs.Common.{◌≡◌, ◌⊎◌, inl, inr, ℕ, List, [], ◌∷◌, ◌++◌, take, Option, Some, None, refl, sym, ◌∙◌, ap, subst, add-one}
-use Rattle.evaluation.specs.Value.{In, first, IsMember}
-use Rattle.evaluation.specs.Graph.{Record}
+use Rattle.engine_semantics.specs.Value.{In, first, IsMember}
+use Rattle.engine_semantics.specs.Graph.{Record}
 use Rattle.keys.specs.Turns.{NoCycle}
 use Rattle.keys.specs.declared.key.Key.{Key}
 use Rattle.keys.specs.declared.value.Value.{Value}
-use Rattle.node.specs.Batches.{asked, keys_of, HasReadyEntries, SetsAll}
+use Rattle.node.specs.Batches.{entry_groups, keys_of, HasReadyEntries, SetsAll}
 use Rattle.node.specs.Graphs.{GraphView, record_at}
 use Rattle.node.specs.Records.{items_of}
 use Rattle.node.specs.declared.entry.Entry.{Entry}
 use Rattle.node.proofs.Lists.{some_is, none_some, in_right}
-use Rattle.open_nodes.specs.Nodes.{Nodes, Records, node_at, groups_of, IsOpen, IsUnsettled, IsClean, IsPlain, IsStill, Stands, IsCurrent, KeepsBack, IsBlocked}
-use Rattle.open_nodes.specs.declared.table.Node.{Node}
-use Rattle.open_nodes.specs.declared.table.Phase.{Phase}
-use Rattle.open_nodes.specs.declared.table.Phase.TheVariants as phase
-use Rattle.open_nodes.specs.declared.table.Table.{Table}
-use Rattle.open_nodes.proofs.Counting.{decide_in}
-use Rattle.open_nodes.proofs.Settlings.{in_map}
-use Rattle.open_nodes.proofs.Wholes.{unsettled_not_clean}
+use Rattle.round_nodes.specs.Nodes.{Nodes, Records, node_at, groups_of, IsOpen, IsUnsettled, IsClean, IsPlain, IsStill, Stands, IsCurrent, KeepsBack, IsBlocked}
+use Rattle.round_nodes.specs.declared.table.Node.{Node}
+use Rattle.round_nodes.specs.declared.table.Phase.{Phase}
+use Rattle.round_nodes.specs.declared.table.Phase.TheVariants as phase
+use Rattle.round_nodes.specs.declared.table.OpenNodes.{OpenNodes}
+use Rattle.round_nodes.proofs.Counting.{decide_in}
+use Rattle.round_nodes.proofs.Settlings.{in_map}
+use Rattle.round_nodes.proofs.Wholes.{unsettled_not_clean}
 use Rattle.round.specs.Closing.{ClosesBy, ClosesWith, Stops, stop_at, closing_keys, IsClosed, HasTaken, IsIdle}
 use Rattle.round.specs.Looks.{IsLastGroup}
-use Rattle.open_nodes.specs.Members.{IsStop}
-use Rattle.round.specs.Moves.{IsWholeNow, IsWanted, KeepsWanted}
+use Rattle.round_nodes.specs.Members.{IsStop}
+use Rattle.round.specs.Moves.{IsInOrder, IsOpenOrSettled, KeepsOpened}
 use Rattle.round.specs.Showing.{IsStall, AreEntries}
 use Rattle.round.specs.declared.closing.Closing.{Closing}
 use Rattle.round.specs.declared.closing.Stall.{Stall}
-use Rattle.open_nodes.proofs.Grouping.{snoc_in}
+use Rattle.round_nodes.proofs.Grouping.{snoc_in}
 use Rattle.round.proofs.Checking.{next_taken}
 use Rattle.round.proofs.Looking.{last_same}
 
@@ -62,7 +62,7 @@ pub record IsStopped (records : Records) (nodes : Nodes) (stops : Stops) (c : Cl
 pub stop_among : (records : Records) (group : List Key) (j : Key) → IsStop records group (Some j) → In j group
 stop_among records group j s = subst (In j) (sym s.2) (in_right s.0 first)
 
-module _ (graph : GraphView) (start later : Table) (stall : Stall) (version : ℕ) (w : IsWholeNow graph start) (idle : IsIdle start)
+module _ (graph : GraphView) (start later : OpenNodes) (stall : Stall) (version : ℕ) (w : IsInOrder graph start) (idle : IsIdle start)
     (t : HasTaken (record_at graph) version start later stall) (none : (k : Key) → node_at later.nodes k ≡ None) where
   abbrev records : Records
   records = record_at graph
@@ -191,8 +191,8 @@ module _ (graph : GraphView) (start later : Table) (stall : Stall) (version : �
         ]
       ]
 
-  -- what was wanted is settled
-  pub closed_keeps : (new : GraphView) (entries : List Entry) → AreEntries (stop_at stall.stops) records stall.closing.items entries → SetsAll records (record_at new) entries version → KeepsWanted graph new start later
+  -- what was opened is settled
+  pub closed_keeps : (new : GraphView) (entries : List Entry) → AreEntries (stop_at stall.stops) records stall.closing.items entries → SetsAll records (record_at new) entries version → KeepsOpened graph new start later
   closed_keeps new entries a sets j o = elim (decide_in j (keys_of entries)) [
     | inl i ↦ of_entry i
     | inr n ↦ elim o [
@@ -201,5 +201,5 @@ module _ (graph : GraphView) (start later : Table) (stall : Stall) (version : �
     ]
   ]
     where
-      of_entry : In j (keys_of entries) → IsWanted new later j
+      of_entry : In j (keys_of entries) → IsOpenOrSettled new later j
       of_entry i = let e = in_map (λ (x : Entry). x.key) entries i in inr (_, ap (record_at new) (sym e.2) ∙ sets.there e.0 e.1, refl)

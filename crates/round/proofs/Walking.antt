@@ -7,26 +7,26 @@ use Rattle.std.specs.Arc.{arc_value}
 use Rattle.std.specs.BTreeMap.{Updates}
 use Rattle.std.specs.declared.alloc.Global.{Global}
 use Rattle.std.specs.declared.sync.Arc.{Arc}
-use Rattle.evaluation.specs.Value.{In, first, after, AllDiffer}
-use Rattle.evaluation.specs.Graph.{Record}
+use Rattle.engine_semantics.specs.Value.{In, first, after, AllDiffer}
+use Rattle.engine_semantics.specs.Graph.{Record}
 use Rattle.keys.specs.Cycles.{cycle}
 use Rattle.keys.specs.Keys.{key_cmp}
 use Rattle.keys.specs.declared.key.Key.{Key}
 use Rattle.keys.specs.declared.value.Value.{Value}
-use Rattle.node.specs.Batches.{asked, keys_of}
+use Rattle.node.specs.Batches.{entry_groups, keys_of}
 use Rattle.node.specs.Graphs.{present}
 use Rattle.node.specs.Records.{items_of}
 use Rattle.node.specs.declared.entry.Entry.{Entry}
 use Rattle.node.proofs.Lists.{some_is, none_some, true_false, decide_key, other_key, in_left, in_right}
-use Rattle.open_nodes.specs.Nodes.{Records, IsClean}
-use Rattle.open_nodes.proofs.Counting.{decide_in}
-use Rattle.open_nodes.proofs.Settlings.{differ_snoc, map_snoc, map_in}
+use Rattle.round_nodes.specs.Nodes.{Records, IsClean}
+use Rattle.round_nodes.proofs.Counting.{decide_in}
+use Rattle.round_nodes.proofs.Settlings.{differ_snoc, map_snoc, map_in}
 use Rattle.round.specs.Closing.{Stops, stop_at, closing_keys}
 use Rattle.round.specs.declared.closing.Closing.{Closing}
 use Rattle.round.specs.Showing.{Chain, stay, step, Shows, IsStall, CycleValues, shown_at, IsShowing, HasWalked, IsFrom, value_in, EndsWith, ShowsAll, AreEntries}
 use Rattle.round.proofs.Stalling.{empty_has}
 use Rattle.round.proofs.Confirming.{take_whole}
-use Rattle.open_nodes.proofs.Grouping.{taken_next, snoc_in, rest_at}
+use Rattle.round_nodes.proofs.Grouping.{taken_next, snoc_in, rest_at}
 
 module _ (stops : Key → Option Key) where
   pub chain_snoc : {k j i : Key} {path : List Key} → Chain stops k path j → stops j ≡ Some i → Chain stops k (path ++ j ∷ []) i
@@ -239,7 +239,7 @@ rest_taken xs i = take_whole (drop i xs) (length xs - i) (rest_length xs i)
 
 -- entries are made of closed nodes, the last first: of `all`, the rest is left
 pub record IsListing (stops : Key → Option Key) (records : Records) (all rest : List Closing) (entries : List Entry) : Type 0 where
-  pub each : (e : Entry) → In e entries → (c : Closing) × In c all × (e.key ≡ c.key) × (asked e ≡ items_of c.groups.items) × Shows stops records e.key (arc_value e.value)
+  pub each : (e : Entry) → In e entries → (c : Closing) × In c all × (e.key ≡ c.key) × (entry_groups e ≡ items_of c.groups.items) × Shows stops records e.key (arc_value e.value)
   pub has : (c : Closing) → In c all → In c rest ⊎ In c.key (keys_of entries)
   pub differ : AllDiffer (keys_of entries)
   pub within : (c : Closing) → In c rest → In c all
@@ -263,11 +263,11 @@ snoc_differ (z ∷ xs) x d = let r = snoc_differ xs x d.1 in ((left xs d.0, r.0)
     go y (after {xs = ys} i) e f = let q : ys ≡ xs = cc in f y (subst (In y) q i)
 
 pub lists_more : (stops : Key → Option Key) (records : Records) (all rest more : List Closing) (c : Closing) (entries : List Entry) (e : Entry) → IsListing stops records all more entries → more ≡ rest ++ c ∷ []
-    → e.key ≡ c.key → asked e ≡ items_of c.groups.items → Shows stops records e.key (arc_value e.value) → IsListing stops records all rest (entries ++ e ∷ [])
+    → e.key ≡ c.key → entry_groups e ≡ items_of c.groups.items → Shows stops records e.key (arc_value e.value) → IsListing stops records all rest (entries ++ e ∷ [])
 lists_more stops records all rest more c entries e h q key groups shows = record {
   each = λ x i. elim (snoc_in entries i) [
     | inl a ↦ h.each x a
-    | inr p ↦ subst (λ (y : Entry). (d : Closing) × In d all × (y.key ≡ d.key) × (asked y ≡ items_of d.groups.items) × Shows stops records y.key (arc_value y.value)) (sym p) (c, h.within c last, key, groups, shows)
+    | inr p ↦ subst (λ (y : Entry). (d : Closing) × In d all × (y.key ≡ d.key) × (entry_groups y ≡ items_of d.groups.items) × Shows stops records y.key (arc_value y.value)) (sym p) (c, h.within c last, key, groups, shows)
   ];
   has = λ d i. elim (h.has d i) [
     | inl m ↦ elim (snoc_in rest (subst (In d) q m)) [

@@ -8,45 +8,45 @@ use Rattle.filetree.specs.Files.{Files}
 use Rattle.keys.specs.Leaves as leaves
 use Rattle.keys.specs.declared.key.Key.TheVariants as key
 use Rattle.node.specs.Records.{items_of}
-use Rattle.evaluation.specs.Reply.{Reply}
-use Rattle.evaluation.specs.Value.{leaf, In, first, IsMember}
-use Rattle.evaluation.specs.Value as value
-use Rattle.evaluation.specs.Graph.{Record}
-use Rattle.evaluation.specs.Choices.{Choice}
-use Rattle.evaluation.specs.Choices as choices
-use Rattle.evaluation.specs.States.{HasBacks}
-use Rattle.evaluation.specs.Journal.{RunIsJustified, never_settled, ReadIsJustified, never_read, edited}
-use Rattle.evaluation.proofs.Moves.{alike}
+use Rattle.engine_semantics.specs.Reply.{Reply}
+use Rattle.engine_semantics.specs.Value.{leaf, In, first, IsMember}
+use Rattle.engine_semantics.specs.Value as value
+use Rattle.engine_semantics.specs.Graph.{Record}
+use Rattle.engine_semantics.specs.Choices.{Choice}
+use Rattle.engine_semantics.specs.Choices as choices
+use Rattle.engine_semantics.specs.States.{HasBacks}
+use Rattle.engine_semantics.specs.Journal.{RunIsJustified, never_settled, ReadIsJustified, never_read, edited}
+use Rattle.engine_semantics.proofs.Moves.{alike}
 use Rattle.keys.specs.Cycles.{cycle}
 use Rattle.keys.specs.Keys.{key_eq}
 use Rattle.keys.specs.declared.key.Key.{Key}
 use Rattle.keys.specs.declared.value.Value.{Value}
 use Rattle.node.specs.Graphs.{GraphView, record_at, Sets, IsTouched}
-use Rattle.node.specs.Writes.{stored}
+use Rattle.node.specs.Writes.{settled_record}
 use Rattle.node.specs.Laws.{SettlingKeepsLawful}
 use Rattle.node.proofs.Lists.{some_is, none_some, true_false, decide_key, in_split, in_left, in_right}
-use Rattle.open_nodes.proofs.Lookups.{other_key}
-use Rattle.open_nodes.specs.Nodes.{Nodes, Records, node_at, groups_of, pending, IsUnsettled, Stands, IsWhole}
-use Rattle.open_nodes.specs.Steps.{HasEntered, Pends, Readies, HasNoted, SameRuns}
-use Rattle.open_nodes.specs.TurnCounts.{turns_of, asked_by}
-use Rattle.open_nodes.specs.Truths.{LeadsBy, LeadsOf, LeadsToEnd, AreSought, IsWantedBy, IsNext, Past, IsAfter, IsTrueOf, IsRun, nothing, IsDoing, TellOut, IsUntold, IsSettledTruly, by_read}
-use Rattle.open_nodes.specs.declared.run.Run.{Run}
-use Rattle.open_nodes.specs.declared.table.Node.{Node}
-use Rattle.open_nodes.specs.declared.table.Phase.{Phase}
-use Rattle.open_nodes.specs.declared.table.Phase.TheVariants as phase
-use Rattle.open_nodes.specs.declared.table.Table.{Table}
-use Rattle.open_nodes.proofs.Wholes.{unsettled_not_clean, node_changes, node_settles, keeps_clean, widens_on}
-use Rattle.open_nodes.proofs.Counting.{turns_snoc, counts_same, counts_none, makes_on}
-use Rattle.open_nodes.proofs.Followings.{grows_none}
-use Rattle.open_nodes.proofs.Settlings.{same_since, truth_changes, settles_by_run}
-use Rattle.round.specs.Moves.{StaysTrueBy, Wants, IsWanted, KeepsWanted}
+use Rattle.round_nodes.proofs.Lookups.{other_key}
+use Rattle.round_nodes.specs.Nodes.{Nodes, Records, node_at, groups_of, pending, IsUnsettled, Stands, IsWhole}
+use Rattle.round_nodes.specs.Steps.{HasEntered, Pends, Readies, HasNoted, SameRuns}
+use Rattle.round_nodes.specs.TurnCounts.{turns_of, asked_by}
+use Rattle.round_nodes.specs.Invariants.{KeepsInvariantBy, LeadsOf, LeadsToEnd, AreSought, IsWantedBy, IsNext, Past, IsAfter, IsTrueOf, IsRun, nothing, IsDoing, TellOut, IsUntold, IsSettledTruly, by_read}
+use Rattle.round_nodes.specs.declared.run.Run.{Run}
+use Rattle.round_nodes.specs.declared.table.Node.{Node}
+use Rattle.round_nodes.specs.declared.table.Phase.{Phase}
+use Rattle.round_nodes.specs.declared.table.Phase.TheVariants as phase
+use Rattle.round_nodes.specs.declared.table.OpenNodes.{OpenNodes}
+use Rattle.round_nodes.proofs.Wholes.{unsettled_not_clean, node_changes, node_settles, keeps_clean, widens_on}
+use Rattle.round_nodes.proofs.Counting.{turns_snoc, counts_same, counts_none, makes_on}
+use Rattle.round_nodes.proofs.Followings.{grows_none}
+use Rattle.round_nodes.proofs.Settlings.{same_since, truth_changes, settles_by_run}
+use Rattle.round.specs.Moves.{StaysTrueBy, Wants, IsOpenOrSettled, KeepsOpened}
 use Rattle.round.proofs.Seeking.{stored_change}
 
--- what was true of the round is true after a move
-abbrev pub StaysTrue : (Key → Option Value) → GraphView → GraphView → Table → Table → Type 0
+-- what was true of the round is true after a step
+abbrev pub StaysTrue : (Key → Option Value) → GraphView → GraphView → OpenNodes → OpenNodes → Type 0
 StaysTrue read old new before later = StaysTrueBy [] read old new before later
 
-abbrev pub StaysTrueOf : List Key → (Key → Option Value) → GraphView → GraphView → Table → Table → Type 0
+abbrev pub StaysTrueOf : List Key → (Key → Option Value) → GraphView → GraphView → OpenNodes → OpenNodes → Type 0
 StaysTrueOf keys read old new before later = (next : Key → List Value → Reply Key Value) (laws : IsNext next) (past : Past read) (cs : List (Choice Key)) → AreSought next read past cs keys → IsTrueOf next read past cs old before.nodes before.runs.items → IsTrueOf next read past cs new later.nodes later.runs.items
 
 -- an unsettled record is dirty
@@ -58,9 +58,9 @@ unsettled_dirty records k r u e = go r.dirty refl
     go false t = absurd (unsettled_not_clean (records k) r u e t)
 
 -- a leaf is read
-module _ (old new : GraphView) (before after : Table) (k : Key) (v : Value) (turns : Run)
+module _ (old new : GraphView) (before after : OpenNodes) (k : Key) (v : Value) (turns : Run)
     (version : new.version ≡ old.version)
-    (sets : Sets (record_at old) (record_at new) k (stored (record_at old k) v [] old.version))
+    (sets : Sets (record_at old) (record_at new) k (settled_record (record_at old k) v [] old.version))
     (was : IsUnsettled (record_at old) k) (closed : node_at before.nodes k ≡ None)
     (noted : HasNoted before after turns) where
   other_nodes : (j : Key) → k ≢ j → node_at before.nodes j ≡ node_at before.nodes j
@@ -73,14 +73,14 @@ module _ (old new : GraphView) (before after : Table) (k : Key) (v : Value) (tur
   read_wants none = record {
     version = version;
     widens = record {
-      clean = λ j s e d. keeps_clean (record_at old) (record_at new) before.nodes before.nodes k (stored (record_at old k) v [] old.version) sets.there refl sets.others was closed other_nodes j s e d;
+      clean = λ j s e d. keeps_clean (record_at old) (record_at new) before.nodes before.nodes k (settled_record (record_at old k) v [] old.version) sets.there refl sets.others was closed other_nodes j s e d;
       open_still = λ j m e. nodes_same j ∙ e;
       same = λ j m e. sets.others j (λ q. none_some (sym closed ∙ ap (node_at before.nodes) q ∙ e));
     };
     whole = λ spare w. subst (λ (x : Nodes). IsWhole (record_at new) x after.ready.keys (spare ++ pending after)) (sym noted.nodes)
         (subst (λ (x : List Key). IsWhole (record_at new) before.nodes x (spare ++ pending after)) (sym noted.ready)
         (subst (λ (x : List Key). IsWhole (record_at new) before.nodes before.ready.keys (spare ++ x)) (sym noted.pends)
-        (node_settles (record_at old) (record_at new) before.nodes before.nodes k (stored (record_at old k) v [] old.version) sets.there refl sets.others was closed other_nodes
+        (node_settles (record_at old) (record_at new) before.nodes before.nodes k (settled_record (record_at old k) v [] old.version) sets.there refl sets.others was closed other_nodes
         before.ready.keys (spare ++ pending before) (spare ++ pending before) w
         (λ i. let r = w.ready_now k i in none_some (sym closed ∙ r.1)) (λ j n i. i) (λ m x e i. absurd (none_some (sym closed ∙ e))))));
     out = λ keys o j m e. o j m (sym (nodes_same j) ∙ e);
@@ -112,12 +112,12 @@ module _ (old new : GraphView) (before after : Table) (k : Key) (v : Value) (tur
     pub read_true : IsTrueOf next read past cs new after.nodes after.runs.items
     read_true =
         subst (λ (x : Nodes). IsTrueOf next read past cs new x after.runs.items) (sym noted.nodes) (subst (λ (x : List Run). IsTrueOf next read past cs new before.nodes x) (sym noted.runs)
-        (settles_by_run next read laws past cs cs (grows_none next read past cs) old new before.nodes before.nodes before.runs.items k (stored (record_at old k) v [] old.version) (λ j d. alike j cs) t version sets was refl (sought k first).0 refl
+        (settles_by_run next read laws past cs cs (grows_none next read past cs) old new before.nodes before.nodes before.runs.items k (settled_record (record_at old k) v [] old.version) (λ j d. alike j cs) t version sets was refl (sought k first).0 refl
         (lawful next past.reads past.edits t.after.lawful (leaf (at_now old.version t.after.version))) closed other_nodes (λ s. settled_truly) turns of_k now
         (inl (ap read of_k ∙ is_leaf, no_turns, justified)) (λ j m. elim m.1 [ ]) (value.is_leaf is_leaf)))
 
 -- a node begins
-module _ (graph : GraphView) (before after : Table) (k : Key) (p : Phase) (no_out : p ≢ phase.Out)
+module _ (graph : GraphView) (before after : OpenNodes) (k : Key) (p : Phase) (no_out : p ≢ phase.Out)
     (closed : node_at before.nodes k ≡ None) (was : IsUnsettled (record_at graph) k)
     (entered : HasEntered before.nodes after.nodes k p)
     (stands : Stands (record_at graph) k [] p) where
@@ -193,7 +193,7 @@ first_run next read past cs graph k no_leaf wanted e same none = record {
 }
 
 -- the check of a record begins
-module _ (graph : GraphView) (before after : Table) (k : Key) (closed : node_at before.nodes k ≡ None) (was : IsUnsettled (record_at graph) k)
+module _ (graph : GraphView) (before after : OpenNodes) (k : Key) (closed : node_at before.nodes k ≡ None) (was : IsUnsettled (record_at graph) k)
     (entered : HasEntered before.nodes after.nodes k (phase.Checking 0)) (pends : Pends before after k) (r : Record Key Value) (there : record_at graph k ≡ Some r) where
   not_out : phase.Checking 0 ≢ phase.Out
   not_out e = cc
@@ -222,7 +222,7 @@ module _ (graph : GraphView) (before after : Table) (k : Key) (closed : node_at 
   ))
 
 -- the turns of a node without a record begin
-module _ (graph : GraphView) (before after : Table) (k : Key) (closed : node_at before.nodes k ≡ None) (was : IsUnsettled (record_at graph) k)
+module _ (graph : GraphView) (before after : OpenNodes) (k : Key) (closed : node_at before.nodes k ≡ None) (was : IsUnsettled (record_at graph) k)
     (entered : HasEntered before.nodes after.nodes k phase.Running) (readies : Readies before after k) (none : record_at graph k ≡ None) where
   running_not_out : phase.Running ≢ phase.Out
   running_not_out e = cc
@@ -237,13 +237,13 @@ module _ (graph : GraphView) (before after : Table) (k : Key) (closed : node_at 
       (λ same untold. (first_run next read past cs graph k no_leaf (sought k first).1 none same untold.0, untold.1))
 
 -- what a call stores for a leaf
-pub read_sets : (old new : GraphView) (a k : Key) (v : Value) (gs : List (Vec Key Global)) → a ≡ k → gs ≡ [] → Sets (record_at old) (record_at new) a (stored (record_at old a) v (items_of gs) old.version) → Sets (record_at old) (record_at new) k (stored (record_at old k) v [] old.version)
-read_sets old new a k v gs e f s = subst (λ (x : Key). Sets (record_at old) (record_at new) x (stored (record_at old x) v [] old.version)) e (subst (λ (xs : List (Vec Key Global)). Sets (record_at old) (record_at new) a (stored (record_at old a) v (items_of xs) old.version)) f s)
+pub read_sets : (old new : GraphView) (a k : Key) (v : Value) (gs : List (Vec Key Global)) → a ≡ k → gs ≡ [] → Sets (record_at old) (record_at new) a (settled_record (record_at old a) v (items_of gs) old.version) → Sets (record_at old) (record_at new) k (settled_record (record_at old k) v [] old.version)
+read_sets old new a k v gs e f s = subst (λ (x : Key). Sets (record_at old) (record_at new) x (settled_record (record_at old x) v [] old.version)) e (subst (λ (xs : List (Vec Key Global)). Sets (record_at old) (record_at new) a (settled_record (record_at old a) v (items_of xs) old.version)) f s)
 
 pub read_keeps : (old new : GraphView) (a k : Key) (v : Value) (gs : List (Vec Key Global)) → a ≡ k → gs ≡ [] → SettlingKeepsLawful old new a v (items_of gs) → SettlingKeepsLawful old new k v []
 read_keeps old new a k v gs e f s = subst (λ (x : Key). SettlingKeepsLawful old new x v []) e (subst (λ (xs : List (Vec Key Global)). SettlingKeepsLawful old new a v (items_of xs)) f s)
 
-pub wants_on : (a b c : GraphView) (x y z : Table) → Wants a b x y → Wants b c y z → Wants a c x z
+pub wants_on : (a b c : GraphView) (x y z : OpenNodes) → Wants a b x y → Wants b c y z → Wants a c x z
 wants_on a b c x y z f g = record {
   version = g.version ∙ f.version;
   widens = widens_on (record_at a) (record_at b) (record_at c) x.nodes y.nodes z.nodes f.widens g.widens;
@@ -252,7 +252,7 @@ wants_on a b c x y z f g = record {
   turns = makes_on x y z f.turns g.turns;
 }
 
-pub wanted_on : (a b : GraphView) (x y : Table) (k : Key) → Wants a b x y → IsWanted a x k → IsWanted b y k
+pub wanted_on : (a b : GraphView) (x y : OpenNodes) (k : Key) → Wants a b x y → IsOpenOrSettled a x k → IsOpenOrSettled b y k
 wanted_on a b x y k w (inl o) = inl (o.0, w.widens.open_still k o.0 o.1)
 wanted_on a b x y k w (inr c) = inr (c.0, w.widens.clean k c.0 c.1 c.2, c.2)
 
@@ -265,7 +265,7 @@ pub none_there : {X : Type 0} (o : Option X) → is_some o ≡ false → o ≡ N
 none_there None e = refl
 none_there (Some x) e = absurd (true_false refl e)
 
--- a key that is no leaf is read as none
+-- a key that is not a leaf is read as none
 pub no_leaf : (files : Files) (k : Key) → leaves.is_leaf k ≡ false → leaves.read files k ≡ None
 no_leaf files (key.File path) e = absurd (true_false refl e)
 no_leaf files (key.Listing directory) e = absurd (true_false refl e)
@@ -276,23 +276,23 @@ no_leaf files (key.Package name) e = refl
 no_leaf files (key.Under directory) e = refl
 
 -- after a stop
-pub leads_err : {X E : Type 0} (added : List (Choice Key)) (next : Key → List Value → Reply Key Value) (read : Key → Option Value) (old new : GraphView) (before later : Table) (r : Result X E) → IsErr r
-    → ((laws : IsNext next) (past : Past read) (cs : List (Choice Key)) → IsTrueOf next read past cs old before.nodes before.runs.items → IsAfter next read past new) → LeadsBy added next read old new before later r
+pub leads_err : {X E : Type 0} (added : List (Choice Key)) (next : Key → List Value → Reply Key Value) (read : Key → Option Value) (old new : GraphView) (before later : OpenNodes) (r : Result X E) → IsErr r
+    → ((laws : IsNext next) (past : Past read) (cs : List (Choice Key)) → IsTrueOf next read past cs old before.nodes before.runs.items → IsAfter next read past new) → KeepsInvariantBy added next read old new before later r
 leads_err added next read old new before later (Ok x) e h = absurd (true_false e refl)
 leads_err added next read old new before later (Err x) e h = h
 
-pub leads_of_err : {X E : Type 0} (next : Key → List Value → Reply Key Value) (read : Key → Option Value) (keys : List Key) (old new : GraphView) (before later : Table) (r : Result X E) → IsErr r
+pub leads_of_err : {X E : Type 0} (next : Key → List Value → Reply Key Value) (read : Key → Option Value) (keys : List Key) (old new : GraphView) (before later : OpenNodes) (r : Result X E) → IsErr r
     → ((laws : IsNext next) (past : Past read) (cs : List (Choice Key)) → AreSought next read past cs keys → IsTrueOf next read past cs old before.nodes before.runs.items → IsAfter next read past new) → LeadsOf next read keys old new before later r
 leads_of_err next read keys old new before later (Ok x) e h = absurd (true_false e refl)
 leads_of_err next read keys old new before later (Err x) e h = h
 
-pub leads_to_end_err : {X E : Type 0} (next : Key → List Value → Reply Key Value) (read : Key → Option Value) (old new : GraphView) (before later : Table) (r : Result X E) → IsErr r
+pub leads_to_end_err : {X E : Type 0} (next : Key → List Value → Reply Key Value) (read : Key → Option Value) (old new : GraphView) (before later : OpenNodes) (r : Result X E) → IsErr r
     → ((laws : IsNext next) (past : Past read) (cs : List (Choice Key)) → IsTrueOf next read past cs old before.nodes before.runs.items → IsAfter next read past new) → LeadsToEnd next read old new before later r
 leads_to_end_err next read old new before later (Ok x) e h = absurd (true_false e refl)
 leads_to_end_err next read old new before later (Err x) e h = h
 
--- one node is set: what was wanted is
-pub wanted_set : (graph : GraphView) (before later : Table) (k : Key) (n : Node) → Updates key_eq before.nodes later.nodes k (Some n) → KeepsWanted graph graph before later
+-- one node is set: what was opened is
+pub wanted_set : (graph : GraphView) (before later : OpenNodes) (k : Key) (n : Node) → Updates key_eq before.nodes later.nodes k (Some n) → KeepsOpened graph graph before later
 wanted_set graph before later k n u j (inr c) = inr c
 wanted_set graph before later k n u j (inl o) = elim (decide_key k j) [
   | inl e ↦ inl (n, ap (node_at later.nodes) (sym e) ∙ u.1)
@@ -300,8 +300,8 @@ wanted_set graph before later k n u j (inl o) = elim (decide_key k j) [
 ]
 
 -- one node leaves, and is settled
-pub wanted_leaves : (old new : GraphView) (before later : Table) (k : Key) (r : Record Key Value) → record_at new k ≡ Some r → r.dirty ≡ false → ((j : Key) → k ≢ j → record_at new j ≡ record_at old j)
-    → ((j : Key) → k ≢ j → node_at later.nodes j ≡ node_at before.nodes j) → KeepsWanted old new before later
+pub wanted_leaves : (old new : GraphView) (before later : OpenNodes) (k : Key) (r : Record Key Value) → record_at new k ≡ Some r → r.dirty ≡ false → ((j : Key) → k ≢ j → record_at new j ≡ record_at old j)
+    → ((j : Key) → k ≢ j → node_at later.nodes j ≡ node_at before.nodes j) → KeepsOpened old new before later
 wanted_leaves old new before later k r there clean records nodes j (inl o) = elim (decide_key k j) [
   | inl e ↦ inr (r, ap (record_at new) (sym e) ∙ there, clean)
   | inr d ↦ inl (o.0, nodes j d ∙ o.1)
@@ -311,6 +311,6 @@ wanted_leaves old new before later k r there clean records nodes j (inr c) = eli
   | inr d ↦ inr (c.0, records j d ∙ c.1, c.2)
 ]
 
-pub wanted_same : (graph : GraphView) (before later : Table) → later.nodes ≡ before.nodes → KeepsWanted graph graph before later
+pub wanted_same : (graph : GraphView) (before later : OpenNodes) → later.nodes ≡ before.nodes → KeepsOpened graph graph before later
 wanted_same graph before later e j (inl o) = inl (o.0, ap (λ x. node_at x j) e ∙ o.1)
 wanted_same graph before later e j (inr c) = inr c

@@ -1,18 +1,19 @@
--- What a call of an evaluation promises, for every history of the files for which the graph was lawful at its entry.
+-- What a call of an evaluation promises, for every history of the files for which the graph was consistent at its
+-- entry.
 use Rattle.std.specs.Prelude.{◌≡◌, List, [], Option, Some, None, true, false, Result, Ok, Err}
-use Rattle.evaluation.specs.Reply.{Reply}
-use Rattle.evaluation.specs.Value.{In, IsMember, AllDiffer, HasValue}
-use Rattle.evaluation.specs.Graph.{Record}
-use Rattle.evaluation.specs.Choices.{Comes}
-use Rattle.evaluation.specs.Journal.{RunIsJustified}
+use Rattle.engine_semantics.specs.Reply.{Reply}
+use Rattle.engine_semantics.specs.Value.{In, IsMember, AllDiffer, HasValue}
+use Rattle.engine_semantics.specs.Graph.{Record}
+use Rattle.engine_semantics.specs.Choices.{Comes}
+use Rattle.engine_semantics.specs.Journal.{RunIsJustified}
 use Rattle.keys.specs.Cycles.{cycle}
 use Rattle.keys.specs.declared.key.Key.{Key}
 use Rattle.keys.specs.declared.value.Value.{Value}
 use Rattle.node.specs.Graphs.{GraphView, record_at, IsTouched}
-use Rattle.node.specs.Laws.{IsLawfulFor}
-use Rattle.open_nodes.specs.Nodes.{IsUnsettled, IsClean}
-use Rattle.open_nodes.specs.Truths.{Past, IsReached, IsAfter, IsRunOf, IsTold, AreBehind, AreClosedLast, TellsChange, run_keys}
-use Rattle.open_nodes.specs.declared.run.Run.{Run}
+use Rattle.node.specs.Laws.{IsConsistentFor}
+use Rattle.round_nodes.specs.Nodes.{IsUnsettled, IsClean}
+use Rattle.round_nodes.specs.Invariants.{Past, IsReached, IsAfter, IsRunOf, IsLogged, AreBehind, AreClosedLast, TellsChange, run_keys}
+use Rattle.round_nodes.specs.declared.run.Run.{Run}
 use Rattle.round.specs.declared.stop.Stop.{Stop}
 
 module _ (next : Key → List Value → Reply Key Value) (read : Key → Option Value) where
@@ -20,8 +21,8 @@ module _ (next : Key → List Value → Reply Key Value) (read : Key → Option 
   abbrev pub IsAnswered : GraphView → Key → Type 0
   IsAnswered graph k = (r : Record Key Value) × (record_at graph k ≡ Some r) × (r.dirty ≡ false) × HasValue next read cycle k r.value
 
-  -- the next turn of a key is to be made: the roots reach it, it is not settled, and it may make turns; these asked the groups, whose members
-  -- are settled, each with a grounded value
+  -- the next turn of a key is to be made: the roots reach it, it is not settled, and it may make turns; these asked for
+  -- the groups, whose members are settled, each with a grounded value
   pub record WantsTurn (past : Past read) (graph : GraphView) (k : Key) : Type 0 where
     pub no_leaf : read k ≡ None
     pub reached : IsReached next read past k
@@ -34,7 +35,7 @@ module _ (next : Key → List Value → Reply Key Value) (read : Key → Option 
 
   -- the law of a call that ended well
   pub record IsCall (past : Past read) (graph : GraphView) (runs : List Run) : Type 0 where
-    -- the graph is lawful for the same history, and each record is that of the entry, or settled in this call
+    -- the graph is consistent for the same history, and each record is that of the entry, or settled in this call
     pub after : IsAfter next read past graph
     -- each root has its value
     pub answered : (k : Key) → In k past.roots → IsAnswered graph k
@@ -43,23 +44,24 @@ module _ (next : Key → List Value → Reply Key Value) (read : Key → Option 
     -- no key has two
     pub differ : AllDiffer (run_keys next read past runs)
     -- a key has a run, if its record is new, or has another grounded value than at the entry
-    pub told : (k : Key) (r : Record Key Value) → record_at graph k ≡ Some r → IsTold next read past runs k r
-    -- a leaf that was marked at the entry and that the roots reach was read again, and has a run though its value be equal
+    pub told : (k : Key) (r : Record Key Value) → record_at graph k ≡ Some r → IsLogged next read past runs k r
+    -- a leaf that was dirty at the entry and that the roots reach was read again, and has a run even if its value is
+    -- equal
     pub reads : (k : Key) (v : Value) (r : Record Key Value) → read k ≡ Some v → record_at past.entry k ≡ Some r → r.dirty ≡ true → IsReached next read past k → In k (run_keys next read past runs)
-    -- a run stands behind those of its node's recorded members; only two nodes that a stall closed may stand otherwise
+    -- a run is after those of its node's recorded members, unless a stall closed both nodes
     pub behind : AreBehind next read past graph runs
-    -- the nodes that a stall closed stand last, in the order of their keys
+    -- the nodes that a stall closed are last, in the order of their keys
     pub closed : AreClosedLast next read past runs
     -- the value of a record is that of the entry, which changed when it did then, or it changed in this call
     pub change : (k : Key) → TellsChange next read past graph k
     -- no turn is to be made any more
     pub over : (k : Key) → WantsTurn past graph k → ⊥
 
-  -- a history for which the graph is lawful, and these roots
+  -- a history for which the graph is consistent, and these roots
   pub record IsHistory (past : Past read) (roots : List Key) (graph : GraphView) : Type 0 where
     pub at_entry : past.entry ≡ graph
     pub of_roots : past.roots ≡ roots
-    pub lawful : IsLawfulFor next past.reads past.edits graph
+    pub lawful : IsConsistentFor next past.reads past.edits graph
 
   abbrev pub Calls : List Key → GraphView → GraphView → Result (List Run) Stop → Type 0
   Calls roots old new (Ok runs) = (past : Past read) → IsHistory past roots old → IsCall past new runs

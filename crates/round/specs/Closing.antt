@@ -1,27 +1,28 @@
--- The nodes that a stall closes, as they were open beside the graph.
+-- The nodes that a stall closes, as they were open with the graph.
 use Rattle.std.specs.Prelude.{◌≡◌, ℕ, ◌+◌, List, [], ◌∷◌, ◌++◌, length, map, take, Bool, true, false, Option, Some, None, ⊤}
 use Rattle.std.specs.BTreeMap.{BTreeMap, get, Updates}
 use Rattle.std.specs.Ordering.{is_lt}
 use Rattle.std.specs.declared.cmp.Ordering.TheVariants.{Less}
-use Rattle.evaluation.specs.Graph.{Record}
-use Rattle.evaluation.specs.Value.{In, AllDiffer}
+use Rattle.engine_semantics.specs.Graph.{Record}
+use Rattle.engine_semantics.specs.Value.{In, AllDiffer}
 use Rattle.keys.specs.Keys.{key_cmp}
 use Rattle.keys.specs.declared.key.Key.{Key}
 use Rattle.keys.specs.declared.value.Value.{Value}
 use Rattle.node.specs.Records.{items_of}
-use Rattle.open_nodes.specs.TurnCounts.{MakesNone}
-use Rattle.open_nodes.specs.Nodes.{Nodes, Records, node_at, groups_of, IsOpen, pending, AreOut}
-use Rattle.open_nodes.specs.declared.run.Run.{Run}
-use Rattle.open_nodes.specs.declared.table.Node.{Node}
-use Rattle.open_nodes.specs.declared.table.Phase.{Phase}
-use Rattle.open_nodes.specs.declared.table.Phase.TheVariants as phase
-use Rattle.open_nodes.specs.declared.table.Table.{Table}
+use Rattle.round_nodes.specs.TurnCounts.{MakesNoTurn}
+use Rattle.round_nodes.specs.Nodes.{Nodes, Records, node_at, groups_of, IsOpen, pending, AreOut}
+use Rattle.round_nodes.specs.declared.run.Run.{Run}
+use Rattle.round_nodes.specs.declared.table.Node.{Node}
+use Rattle.round_nodes.specs.declared.table.Phase.{Phase}
+use Rattle.round_nodes.specs.declared.table.Phase.TheVariants as phase
+use Rattle.round_nodes.specs.declared.table.OpenNodes.{OpenNodes}
 use Rattle.round.specs.Looks.{IsLastGroup}
-use Rattle.open_nodes.specs.Members.{IsStop}
+use Rattle.round_nodes.specs.Members.{IsStop}
 use Rattle.round.specs.declared.closing.Closing.{Closing}
 use Rattle.round.specs.declared.closing.Stall.{Stall}
 
--- the groups of a node up to the one that it waits for: of a checked one those of its record, of another one all that its turns asked
+-- the groups of a node up to the one that it waits for: for a checked one those of its record, for another one all that
+-- its turns asked for
 abbrev pub ClosesBy : Records → Key → List (List Key) → Phase → List (List Key) → Type 0
 ClosesBy records k asked (phase.Checking at) groups = (r : Record Key Value) → records k ≡ Some r → groups ≡ take (at + 1) r.groups
 ClosesBy records k asked phase.Running groups = groups ≡ asked
@@ -82,12 +83,12 @@ pub record IsRunOfClosed (version : ℕ) (nodes : Nodes) (closing : List Closing
   pub turns : x.turns ≡ length closed.groups.items
   pub turned : (n : Node) → node_at nodes closed.key ≡ Some n → HasTurned n true
 
--- each run's key is before the keys of those behind it
+-- each run's key is before the keys of those after it
 abbrev pub AreAscending : List Run → Type 0
 AreAscending runs = (before rest : List Run) (run : Run) → runs ≡ before ++ run ∷ rest → (later : Run) → In later rest → key_cmp run.key later.key ≡ Less
 
--- nodes were taken out of those that are open, the least ones, each with its run where it made turns
-pub record HasTaken (records : Records) (version : ℕ) (before after : Table) (stall : Stall) : Type 0 where
+-- nodes were removed from those that are open, the least ones, each with its run if it made turns
+pub record HasTaken (records : Records) (version : ℕ) (before after : OpenNodes) (stall : Stall) : Type 0 where
   pub closed : (c : Closing) → In c stall.closing.items → IsClosed records before.nodes stall.stops c
   pub gone : (k : Key) → In k (closing_keys stall.closing.items) → node_at after.nodes k ≡ None
   pub stays : (k : Key) → (In k (closing_keys stall.closing.items) → ⊥) → (node_at after.nodes k ≡ node_at before.nodes k) × (stop_at stall.stops k ≡ None)
@@ -99,10 +100,10 @@ pub record HasTaken (records : Records) (version : ℕ) (before after : Table) (
   pub added_differ : AllDiffer (map (λ (x : Run). x.key) added)
   pub ascending : AreAscending added
   pub below : (x : Run) → In x added → (k : Key) → IsOpen after.nodes k → key_cmp x.key k ≡ Less
-  pub made : MakesNone before after
+  pub made : MakesNoTurn before after
 
--- no job is out, none is ready, and nothing is to be looked at
-pub record IsIdle (table : Table) : Type 0 where
+-- no job is out, none is ready, and nothing is to be visited
+pub record IsIdle (table : OpenNodes) : Type 0 where
   pub none_pending : pending table ≡ []
   pub none_ready : table.ready.keys ≡ []
   pub none_out : AreOut table.nodes []

@@ -1,17 +1,17 @@
 -- What a list of choices leads to.
 use Rattle.std.specs.Prelude.{◌≡◌, ℕ, ◌+◌, ◌<◌, List, [], ◌∷◌, ◌++◌, take, drop, Option}
-use Rattle.evaluation.specs.Reply.{Reply}
-use Rattle.evaluation.specs.Value.{In}
-use Rattle.evaluation.specs.Choices.{Legal, IsStall, Settled}
-use Rattle.evaluation.specs.Choices as choices
+use Rattle.engine_semantics.specs.Reply.{Reply}
+use Rattle.engine_semantics.specs.Value.{In}
+use Rattle.engine_semantics.specs.Choices.{Legal, IsStall, Settled}
+use Rattle.engine_semantics.specs.Choices as choices
 use Rattle.keys.specs.Cycles.{cycle}
 use Rattle.keys.specs.declared.key.Key.{Key}
 use Rattle.keys.specs.declared.value.Value.{Value}
 use Rattle.node.specs.Graphs.{GraphView, record_at}
-use Rattle.open_nodes.specs.TurnCounts.{turns_of}
-use Rattle.open_nodes.specs.Nodes.{IsUnsettled}
-use Rattle.open_nodes.specs.Truths.{Past, IsAfter}
-use Rattle.open_nodes.specs.declared.run.Run.{Run}
+use Rattle.round_nodes.specs.TurnCounts.{turns_of}
+use Rattle.round_nodes.specs.Nodes.{IsUnsettled}
+use Rattle.round_nodes.specs.Invariants.{Past, IsAfter}
+use Rattle.round_nodes.specs.declared.run.Run.{Run}
 use Rattle.round.specs.declared.choice.Choice.{Choice}
 use Rattle.round.specs.declared.choice.Choice.TheVariants as choice
 use Rattle.round.specs.declared.choice.Replayed.{Replayed}
@@ -19,15 +19,15 @@ use Rattle.round.specs.declared.choice.Replayed.TheVariants as replayed
 use Rattle.round.specs.Call.{IsCall, IsHistory}
 use Rattle.round.specs.Choosing.{IsPossibleAfter}
 
-abbrev pub chosen : Choice → choices.Choice Key
-chosen (choice.Hand k) = choices.Hand k
-chosen (choice.Back k) = choices.Back k
-chosen (choice.Drop k) = choices.Drop k
+abbrev pub choice_view : Choice → choices.Choice Key
+choice_view (choice.Hand k) = choices.Hand k
+choice_view (choice.Back k) = choices.Back k
+choice_view (choice.Drop k) = choices.Drop k
 
--- the choices, the newest first, behind earlier ones
+-- the choices, the newest first, after earlier ones
 abbrev pub newest_after : List (choices.Choice Key) → List Choice → List (choices.Choice Key)
 newest_after earlier [] = earlier
-newest_after earlier (c ∷ more) = newest_after (chosen c ∷ earlier) more
+newest_after earlier (c ∷ more) = newest_after (choice_view c ∷ earlier) more
 
 abbrev pub newest : List Choice → List (choices.Choice Key)
 newest made = newest_after [] made
@@ -65,8 +65,9 @@ module _ (next : Key → List Value → Reply Key Value) (read : Key → Option 
   abbrev pub LacksRoot : Past read → List Choice → Type 0
   LacksRoot past made = (k : Key) × In k past.roots × (Settled next cycle read (record_at past.entry) past.roots (newest made) k → ⊥)
 
-  -- so many choices were read. Each was possible after those before it, the runs have the turns that they handed out, and behind them, as nowhere
-  -- earlier, no turn can be handed out or taken back: the roots are settled, or what is open leads into loops.
+  -- This many choices were read. Each was possible after those before it, and the runs have the turns that they handed
+  -- out. After them, as nowhere earlier, no turn can be handed out or taken back: the roots are settled, or what is
+  -- open leads into cycles.
   pub record HasRead (past : Past read) (made : List Choice) (runs : List Run) : Type 0 where
     pub number : ℕ
     pub legal : AreLegal past (take number made)
@@ -75,26 +76,28 @@ module _ (next : Key → List Value → Reply Key Value) (read : Key → Option 
     -- before each of them a root was not settled
     pub not_sooner : (n : ℕ) → n < number → LacksRoot past (take n made)
 
-  -- the law of a call holds, and choices were read up to a stall; or all were possible, and a root is not settled; or the one at the place was
-  -- not possible after those before it, and a root is not settled. After the latter two the graph is as after a stop.
+  -- the law of a call is true, and choices were read up to a stall; or all were possible, and a root is not settled; or
+  -- the one at the place was not possible after those before it, and a root is not settled. After the latter two the
+  -- graph is as after a stop.
   abbrev pub Replays : List Key → GraphView → GraphView → List Choice → Replayed → Type 0
   Replays roots old new made (replayed.Done runs) = (past : Past read) → IsHistory next read past roots old → IsCall next read past new runs.items × HasRead past made runs.items
   Replays roots old new made replayed.ChoicesEnded = (past : Past read) → IsHistory next read past roots old → IsAfter next read past new × HasOpenRoot roots new × AreLegal past made
   Replays roots old new made (replayed.NotLegal n) = (past : Past read) → IsHistory next read past roots old → IsAfter next read past new × HasOpenRoot roots new × AreLegal past (take n made)
-      × (c : Choice) × IsAt made n c × (IsPossibleAfter next read past (newest (take n made)) (chosen c) → ⊥)
+      × (c : Choice) × IsAt made n c × (IsPossibleAfter next read past (newest (take n made)) (choice_view c) → ⊥)
 
-  -- the choices before the place were possible and handed the budget's turns out, and the one there could hand a further one out
+  -- the choices before the place were possible and handed out the budget's turns, and the one there could hand out a
+  -- further one
   pub record IsSpentAt (past : Past read) (made : List Choice) (budget n : ℕ) (c : Choice) : Type 0 where
     pub at : IsAt made n c
     pub hand : hand_of c ≡ 1
     pub spent : hands (take n made) ≡ budget
     pub legal : AreLegal past (take n made)
-    pub possible : IsPossibleAfter next read past (newest (take n made)) (chosen c)
+    pub possible : IsPossibleAfter next read past (newest (take n made)) (choice_view c)
 
-  -- it is so at a choice, and a root is not settled
+  -- this is the case at a choice, and a root is not settled
   abbrev pub SpendsBudget : List Key → GraphView → GraphView → List Choice → ℕ → Type 0
   SpendsBudget roots old new made budget = (past : Past read) → IsHistory next read past roots old → HasOpenRoot roots new × (n : ℕ) × (c : Choice) × IsSpentAt past made budget n c
 
-  -- it is so at no choice
+  -- this is the case at no choice
   abbrev pub KeepsBudget : List Key → GraphView → List Choice → ℕ → Type 0
   KeepsBudget roots old made budget = (past : Past read) → IsHistory next read past roots old → (n : ℕ) (c : Choice) → IsSpentAt past made budget n c → ⊥

@@ -1,21 +1,21 @@
--- What the nodes of a stall show: the loop to which the walk along their stops comes. `stops k` is the member at which k stops, for each node
--- that is closed; `records` gives the graph's record of a key.
+-- What the nodes of a stall show: the cycle to which the walk along their stops comes. `stops k` is the member at which
+-- k stops, for each node that is closed; `records` gives the graph's record of a key.
 use Rattle.std.specs.Prelude.{◌≡◌, ◌⊎◌, List, [], ◌∷◌, ◌++◌, false, Option, Some, None, option_map}
 use Rattle.std.specs.Arc.{arc_value}
 use Rattle.std.specs.BTreeMap.{BTreeMap, get}
 use Rattle.std.specs.declared.alloc.Global.{Global}
 use Rattle.std.specs.declared.sync.Arc.{Arc}
-use Rattle.evaluation.specs.Graph.{Record}
-use Rattle.evaluation.specs.Value.{In, AllDiffer}
+use Rattle.engine_semantics.specs.Graph.{Record}
+use Rattle.engine_semantics.specs.Value.{In, AllDiffer}
 use Rattle.keys.specs.Cycles.{cycle}
 use Rattle.keys.specs.Keys.{key_cmp}
 use Rattle.keys.specs.declared.key.Key.{Key}
 use Rattle.keys.specs.declared.value.Value.{Value}
-use Rattle.node.specs.Batches.{asked, keys_of}
+use Rattle.node.specs.Batches.{entry_groups, keys_of}
 use Rattle.node.specs.Graphs.{present}
 use Rattle.node.specs.Records.{items_of}
 use Rattle.node.specs.declared.entry.Entry.{Entry}
-use Rattle.open_nodes.specs.Nodes.{Records, IsClean, IsUnsettled}
+use Rattle.round_nodes.specs.Nodes.{Records, IsClean, IsUnsettled}
 use Rattle.round.specs.Closing.{Stops, stop_at}
 use Rattle.round.specs.declared.closing.Closing.{Closing}
 
@@ -24,7 +24,7 @@ pub data Chain (stops : Key → Option Key) : Key → List Key → Key → Type 
   stay : {k : Key} → Chain stops k [] k
   step : {k i : Key} {keys : List Key} {j : Key} → stops k ≡ Some i → Chain stops i keys j → Chain stops k (k ∷ keys) j
 
--- a walk that comes to m shows v: it comes back to m, and v is the value of that loop; or m is settled, with v
+-- a walk that comes to m shows v: it comes back to m, and v is the value of that cycle; or m is settled, with v
 abbrev pub Ends : (Key → Option Key) → Records → Key → Value → Type 0
 Ends stops records m v = ((rest : List Key) × Chain stops m (m ∷ rest) m × AllDiffer (m ∷ rest) × (v ≡ cycle (m ∷ rest)))
     ⊎ ((r : Record Key Value) × (records m ≡ Some r) × (r.dirty ≡ false) × (v ≡ r.value))
@@ -66,7 +66,7 @@ IsFrom path key part = In key path → (before : List Key) × (rest : List Key) 
 abbrev pub value_in : Option (Record Key Value) → Option Value
 value_in o = present o
 
--- what a path that comes to the key shows: what the key shows already, or is settled with, or the value of its loop
+-- what a path that comes to the key shows: what the key shows already, or is settled with, or the value of its cycle
 abbrev pub EndsWith : Option Value → Option Value → List Key → Key → Value → Type 0
 EndsWith (Some w) settled path key v = v ≡ w
 EndsWith None (Some w) path key v = v ≡ w
@@ -79,6 +79,6 @@ pub record ShowsAll (old new : CycleValues) (path : List Key) (v : Value) : Type
 
 -- the entries of closed nodes, one for each, with the value that it shows
 pub record AreEntries (stops : Key → Option Key) (records : Records) (closing : List Closing) (entries : List Entry) : Type 0 where
-  pub each : (e : Entry) → In e entries → (c : Closing) × In c closing × (e.key ≡ c.key) × (asked e ≡ items_of c.groups.items) × Shows stops records e.key (arc_value e.value)
+  pub each : (e : Entry) → In e entries → (c : Closing) × In c closing × (e.key ≡ c.key) × (entry_groups e ≡ items_of c.groups.items) × Shows stops records e.key (arc_value e.value)
   pub has : (c : Closing) → In c closing → In c.key (keys_of entries)
   pub differ : AllDiffer (keys_of entries)

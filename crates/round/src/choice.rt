@@ -1,6 +1,6 @@
 //! Choices, and what they lead to.
 use keys::Key;
-use open_nodes::Run;
+use round_nodes::Run;
 
 /// What is done next in an evaluation.
 #[derive(Drop)]
@@ -9,14 +9,14 @@ pub enum Choice {
     Hand(Key),
     /// The turn of a node comes back.
     Back(Key),
-    /// The state that was kept of a node is dropped.
+    /// The kept state of a node is dropped.
     Drop(Key),
 }
 
 /// What choices lead to.
 #[derive(Drop)]
 pub enum Replayed {
-    /// All roots are settled. The runs in the order of settling; choices that were left over were not read.
+    /// All roots are settled. These are the runs in the order of settling; choices that were left over were not read.
     Done(Vec<Run>),
     /// All choices were possible, and a root is not settled yet.
     ChoicesEnded,

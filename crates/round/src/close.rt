@@ -1,27 +1,27 @@
-//! Closing of stalls.
+//! The closing of stalls.
 ghost use Rattle.std.specs.Prelude.{◌≡◌, OnOk, OnErr, None, Option};
 ghost use Rattle.keys.specs.declared.key.Key.{Key};
 ghost use Rattle.keys.specs.declared.value.Value.{Value};
-ghost use Rattle.open_nodes.specs.TurnCounts.{MakesNone};
-ghost use Rattle.open_nodes.specs.Nodes.{node_at};
+ghost use Rattle.round_nodes.specs.TurnCounts.{MakesNoTurn};
+ghost use Rattle.round_nodes.specs.Nodes.{node_at};
 ghost use Rattle.round.specs.Closing.{IsIdle};
-ghost use Rattle.round.specs.Moves.{Ends, KeepsWanted, IsWholeNow};
+ghost use Rattle.round.specs.Moves.{Ends, KeepsOpened, IsInOrder};
 
 use crate::closing::close_all;
-use crate::loops::entries_of;
+use crate::cycles::entries_of;
+use base_types::Memory;
 use node::Graph;
-use open_nodes::Table;
+use round_nodes::OpenNodes;
 use std::alloc::Global;
-use texts::Memory;
 
-/// Settles all open nodes at a stall, each with the value of the loop to which it leads. Returns `Memory` if an
+/// Settles all open nodes at a stall, each with the value of the cycle into which it leads. Returns `Memory` if an
 /// allocation fails; the graph is then as before.
-pub fn close_cycles(alloc: Global, graph: &mut Graph, table: &mut Table) -> Result<(), Memory>
-    requires whole { IsWholeNow graph.old table.old }
+pub fn close_cycles(alloc: Global, graph: &mut Graph, table: &mut OpenNodes) -> Result<(), Memory>
+    requires whole { IsInOrder graph.old table.old }
     requires idle { IsIdle table.old }
     ensures none { OnOk result ((k : Key) → node_at table.new.nodes k ≡ None) }
-    ensures keeps { OnOk result (KeepsWanted graph.old graph.new table.old table.new) }
-    ensures turns { OnOk result (MakesNone table.old table.new) }
+    ensures keeps { OnOk result (KeepsOpened graph.old graph.new table.old table.new) }
+    ensures turns { OnOk result (MakesNoTurn table.old table.new) }
     ensures truth { (read : Key → Option Value) → Ends read graph.old graph.new table.old table.new
         result }
     ensures refused { OnErr result (graph.new ≡ graph.old) }

@@ -3,23 +3,23 @@ ghost use Rattle.std.specs.Prelude.{◌≡◌, ◌+◌, ◌∷◌, ◌++◌, [],
 ghost use Rattle.indexmap.specs.IndexMap.{index_map_len, Updates};
 ghost use Rattle.std.specs.Option.{is_some};
 ghost use Rattle.keys.specs.Keys.{key_eq};
-ghost use Rattle.evaluation.specs.Graph.{Record};
+ghost use Rattle.engine_semantics.specs.Graph.{Record};
 ghost use Rattle.keys.specs.declared.key.Key.{Key};
 ghost use Rattle.keys.specs.declared.value.Value.{Value};
 ghost use Rattle.node.specs.Graphs.{record_at};
 ghost use Rattle.node.specs.Records.{items_of};
-ghost use Rattle.open_nodes.specs.Nodes.{node_at, Holds};
-ghost use Rattle.open_nodes.specs.Steps.{HasNoted};
-ghost use Rattle.open_nodes.specs.declared.table.Table.{Table};
+ghost use Rattle.round_nodes.specs.Nodes.{node_at, Holds};
+ghost use Rattle.round_nodes.specs.Steps.{HasNoted};
+ghost use Rattle.round_nodes.specs.declared.table.OpenNodes.{OpenNodes};
 ghost use Rattle.round.specs.Looks.{IsLastGroup};
 ghost use Rattle.round.specs.Closing.{ClosesWith, StopsIn, PutsStop, HasTurned, Descends, IsLeast, HasTaken};
 
+use base_types::Memory;
 use keys::Key;
 use node::{Graph, Group};
-use open_nodes::{Node, Nodes, Phase, Table, first_stop, note};
+use round_nodes::{Node, Nodes, OpenNodes, Phase, first_stop, log_run};
 use std::alloc::Global;
 use std::collections::BTreeMap;
-use texts::Memory;
 
 /// A node that is closed.
 #[derive(Drop)]
@@ -35,7 +35,7 @@ pub struct Closing {
 pub struct Stall {
     /// The nodes.
     pub closing: Vec<Closing>,
-    /// The first member of its last group that has no value, of each node.
+    /// For each node, the first member of its last group that has no value.
     pub stops: BTreeMap<Key, Key>,
 }
 
@@ -68,7 +68,7 @@ fn groups_up_to(alloc: Global, graph: &Graph, key: &Key, at: usize) -> Result<Ve
     Ok(shared)
 }
 
-// Returns the groups of a node up to the one that it waits for, and whether its turns asked them.
+// Returns the groups of a node up to the one that it waits for, and whether its turns asked for them.
 fn groups_to_close(
     alloc: Global,
     graph: &Graph,
@@ -81,7 +81,7 @@ fn groups_to_close(
 {
     let Node {
         groups,
-        watchers: _,
+        waiters: _,
         phase,
     } = node;
     match phase {
@@ -101,7 +101,7 @@ fn last_of<'a>(groups: &'a [Vec<Key>]) -> &'a [Key]
     }
 }
 
-// Returns the first member of the last group that is not settled with a value, or that is settled as a cycle.
+// Returns the first member of the last group that has no value, or that is settled as a cycle.
 fn stop_in(graph: &Graph, groups: &[Vec<Key>]) -> Result<Option<Key>, Memory>
     ensures { IfOk result (StopsIn (record_at graph.now) (items_of groups.now)) }
 {
@@ -111,9 +111,9 @@ fn stop_in(graph: &Graph, groups: &[Vec<Key>]) -> Result<Option<Key>, Memory>
     }
 }
 
-// Notes the run of a node that made turns.
+// Logs the run of a node that made turns.
 fn note_turned(
-    table: &mut Table,
+    table: &mut OpenNodes,
     key: &Key,
     version: u32,
     turned: bool,
@@ -126,7 +126,7 @@ fn note_turned(
     ensures no { turned ≡ false → OnOk result (table.new ≡ table.old) }
 {
     if turned {
-        note(table, key, version, turns)?;
+        log_run(table, key, version, turns)?;
     }
     Ok(())
 }
@@ -141,7 +141,7 @@ fn put_stop(stops: &mut BTreeMap<Key, Key>, key: &Key, stop: Option<Key>) -> Res
     Ok(())
 }
 
-// Puts a node among those that are closed.
+// Adds a node to those that are closed.
 fn put_closing(
     stall: &mut Stall,
     key: Key,
@@ -167,7 +167,7 @@ fn put_least_last(nodes: &mut Nodes) -> Result<(), Memory>
     Ok(())
 }
 
-// Takes the last of the open nodes out, if there is one, which is the least where they descend.
+// Removes the last of the open nodes, if there is one. It is the least if they descend.
 fn take_last(nodes: &mut Nodes) -> Option<(Key, Node)>
     requires { Descends nodes.old.entries }
     ensures descends { Descends nodes.new.entries }
@@ -182,16 +182,16 @@ fn take_last(nodes: &mut Nodes) -> Option<(Key, Node)>
     nodes.pop()
 }
 
-// Takes the least of the open nodes out, which stands last. Returns whether there was one.
+// Removes the least of the open nodes, which is the last. Returns whether there was one.
 fn close_next(
     alloc: Global,
     graph: &Graph,
-    table: &mut Table,
+    table: &mut OpenNodes,
     stall: &mut Stall,
 ) -> Result<bool, Memory>
     requires { Descends table.old.nodes.entries }
     ensures descends { OnOk result (Descends table.new.nodes.entries) }
-    ensures taken { OnOk result ((start : Table) → Holds (record_at graph.now) start.nodes
+    ensures taken { OnOk result ((start : OpenNodes) → Holds (record_at graph.now) start.nodes
         → HasTaken (record_at graph.now) graph.now.version start table.old stall.old
         → HasTaken (record_at graph.now) graph.now.version start table.new stall.new) }
     ensures none { IfOk result (λ more. more ≡ false → (k : Key) → node_at table.new.nodes k
@@ -209,8 +209,8 @@ fn close_next(
     Ok(true)
 }
 
-/// Takes all open nodes out, in their order, and notes the runs of those that made turns.
-pub fn close_all(alloc: Global, graph: &Graph, table: &mut Table) -> Result<Stall, Memory>
+/// Removes all open nodes, in their order, and logs the runs of those that made turns.
+pub fn close_all(alloc: Global, graph: &Graph, table: &mut OpenNodes) -> Result<Stall, Memory>
     ensures taken { IfOk result (λ stall. Holds (record_at graph.now) table.old.nodes
         → HasTaken (record_at graph.now) graph.now.version table.old table.new stall) }
     ensures none { OnOk result ((k : Key) → node_at table.new.nodes k ≡ None) }

@@ -1,15 +1,15 @@
 //! The keys whose jobs are out.
 ghost use Rattle.std.specs.Prelude.{◌≡◌, [], ◌∷◌, OnOk, OnErr};
 ghost use Rattle.std.specs.Bool.{Decides};
-ghost use Rattle.evaluation.specs.Value.{In};
+ghost use Rattle.engine_semantics.specs.Value.{In};
 ghost use Rattle.round.specs.JobsOut.{keys_without};
 
+use base_types::Memory;
 use http_server::Log;
 use keys::Key;
 use std::marker::Model;
-use texts::Memory;
 
-/// The keys whose jobs are out. A contract sees them; a program only knows how many they are.
+/// The keys whose jobs are out. A contract sees them; a program knows only how many there are.
 #[derive(Drop)]
 pub struct OutKeys {
     count: u32,
@@ -29,7 +29,7 @@ impl Model for OutKeys {
 }
 
 impl OutKeys {
-    /// Says that no job is out.
+    /// Makes a set of no keys.
     pub fn new() -> OutKeys
         ensures { result ≡ [] }
     {
@@ -46,7 +46,7 @@ impl OutKeys {
         self.count == 0
     }
 
-    /// Adds a key whose job was not out. Returns `Memory` if more jobs would be out than 32 bits count.
+    /// Adds a key whose job was not out. Returns `Memory` if more jobs would be out than 32 bits can count.
     pub fn add(&mut self, key: &Key) -> Result<(), Memory>
         requires { In key.now self.old → ⊥ }
         ensures added { OnOk result (self.new ≡ key.now ∷ self.old) }
@@ -61,7 +61,7 @@ impl OutKeys {
         Ok(())
     }
 
-    /// Takes out a key whose job was out.
+    /// Removes a key whose job was out.
     pub fn remove(&mut self, key: &Key)
         requires { In key.now self.old }
         ensures { self.new ≡ keys_without key.now self.old }

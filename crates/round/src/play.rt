@@ -1,6 +1,6 @@
-//! One choice of a played round.
+//! One choice of a replayed round.
 ghost use Rattle.std.specs.Prelude.{◌≡◌, ◌≤◌, ◌+◌, ◌∷◌, ◌++◌, [], List, IfOk, IfErr, OnOk, IsErrOf, IsTrue, Option};
-ghost use Rattle.evaluation.specs.Choices.{Hand, Back, Drop};
+ghost use Rattle.engine_semantics.specs.Choices.{Hand, Back, Drop};
 ghost use Rattle.keys.specs.Jobs.{Outcome};
 ghost use Rattle.keys.specs.declared.key.Key.{Key};
 ghost use Rattle.node.specs.Graphs.{GraphView};
@@ -11,12 +11,12 @@ ghost use Rattle.round.specs.declared.stop.Stop.{Stop};
 
 use crate::rounds::Round;
 use crate::stop::Stop;
+use base_types::Memory;
 use filetree::Tree;
 use keys::{Key, Rules, Turned};
 use node::Graph;
-use texts::Memory;
 
-// Returns where the turn of a key stands among those that did not come back.
+// Returns the place of the turn of a key among those that did not come back.
 fn place_of<R: Rules>(turns: &[Turned<R>], key: &Key) -> Option<usize>
     ensures { HasPlace turns.now key.now result }
 {
@@ -28,17 +28,17 @@ fn place_of<R: Rules>(turns: &[Turned<R>], key: &Key) -> Option<usize>
     None
 }
 
-// Puts the turn among those that did not come back.
-fn put_turn<R: Rules>(turns: &mut Vec<Turned<R>>, turned: Turned<R>) -> Result<(), Memory>
+// Adds the turn to those that did not come back.
+fn store_turn<R: Rules>(turns: &mut Vec<Turned<R>>, turned: Turned<R>) -> Result<(), Memory>
     ensures { OnOk result (turns.new.items ≡ turns.old.items ++ turned ∷ []) }
 {
     turns.push(turned)?;
     Ok(())
 }
 
-/// Hands the next turn of a key out and makes it. Returns whether that was possible. Returns `Stop::Budget` if it was,
+/// Hands out the next turn of a key and makes it. Returns whether that was possible. Returns `Stop::Budget` if it was,
 /// but the budget is spent, and `Stop::Memory` if an allocation fails, in the turn too.
-pub fn hand<R: Rules>(
+pub fn play_hand<R: Rules>(
     round: &mut Round<R>,
     turns: &mut Vec<Turned<R>>,
     graph: &Graph,
@@ -70,14 +70,14 @@ pub fn hand<R: Rules>(
                 return Err(Stop::Budget);
             }
             let turned = job.make(rules).made()?;
-            put_turn(turns, turned)?;
+            store_turn(turns, turned)?;
             Ok(true)
         }
     }
 }
 
-/// Takes the turn of a key back. Returns whether its job was out.
-pub fn back<R: Rules>(
+/// Takes back the turn of a key. Returns whether its job was out.
+pub fn play_back<R: Rules>(
     round: &mut Round<R>,
     turns: &mut Vec<Turned<R>>,
     graph: &mut Graph,

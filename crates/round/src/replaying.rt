@@ -2,13 +2,13 @@
 ghost use Rattle.std.specs.Prelude.{◌≡◌, ◌≤◌, ◌+◌, IfOk, IfErr, OnOk, IsErrOf, IsTrue, Err};
 ghost use Rattle.keys.specs.Leaves as leaves;
 ghost use Rattle.round.specs.Playing.{IsPlaying, Plays, IsPossibleNow, StopsAfter, HandsMore, CountsIf};
-ghost use Rattle.round.specs.Replays.{Replays, SpendsBudget, KeepsBudget, chosen, hand_of, turns_told};
+ghost use Rattle.round.specs.Replays.{Replays, SpendsBudget, KeepsBudget, choice_view, hand_of, turns_told};
 ghost use Rattle.round.specs.declared.choice.Choice.{Choice};
 ghost use Rattle.round.specs.Call.{Calls};
 ghost use Rattle.round.specs.declared.stop.Stop.{Stop};
 
 use crate::choice::{Choice, Replayed};
-use crate::play::{back, drop_state, hand};
+use crate::play::{drop_state, play_back, play_hand};
 use crate::rounds::{Round, close_stall};
 use crate::stop::Stop;
 use filetree::Tree;
@@ -28,7 +28,7 @@ fn hands_in(choice: &Choice) -> u64
 }
 
 // Makes one choice. Returns whether it was possible.
-fn choose<R: Rules>(
+fn play_choice<R: Rules>(
     round: &mut Round<R>,
     turns: &mut Vec<Turned<R>>,
     graph: &mut Graph,
@@ -39,11 +39,11 @@ fn choose<R: Rules>(
 ) -> Result<bool, Stop>
     requires { IsPlaying graph.old round.old turns.old.items }
     ensures playing { OnOk result (IsPlaying graph.new round.new turns.new.items) }
-    ensures plays { IfOk result (Plays R.next (leaves.read tree.now) (chosen choice.now) graph.old
-        graph.new round.old round.new) }
+    ensures plays { IfOk result (Plays R.next (leaves.read tree.now) (choice_view choice.now)
+        graph.old graph.new round.old round.new) }
     ensures left { IfOk result (λ went. IsTrue went → hand_of choice.now ≤ left) }
     ensures budget { IsErrOf result Stop.Budget → (left ≡ 0) × (hand_of choice.now ≡ 1)
-        × IsPossibleNow R.next (leaves.read tree.now) (chosen choice.now) graph.old round.old }
+        × IsPossibleNow R.next (leaves.read tree.now) (choice_view choice.now) graph.old round.old }
     ensures unspent { IsErrOf result Stop.Budget → (graph.new ≡ graph.old)
         × (R.turns rules.new ≡ R.turns rules.old) }
     ensures hands { IfOk result (λ went. IsTrue went → HandsMore (hand_of choice.now) round.old
@@ -56,21 +56,21 @@ fn choose<R: Rules>(
         (λ e. StopsAfter R.next (leaves.read tree.now) graph.old graph.new round.old) }
 {
     match choice {
-        Choice::Hand(key) => hand(round, turns, graph, rules, left, key),
-        Choice::Back(key) => Ok(back(round, turns, graph, tree, key)?),
+        Choice::Hand(key) => play_hand(round, turns, graph, rules, left, key),
+        Choice::Back(key) => Ok(play_back(round, turns, graph, tree, key)?),
         Choice::Drop(key) => Ok(drop_state(round, key)),
     }
 }
 
 /// Evaluates the roots by these choices, one after another, in at most `budget` turns of the rules. A turn is made when
 /// it is handed out. If no turn can be handed out and none is out, the open nodes are closed without a choice. As soon
-/// as all roots are settled the answer is `Done`, and choices that are left over are not read.
+/// as all roots are settled the result is `Done`, and choices that are left over are not read.
 ///
 /// Returns `NotLegal` for the first choice that was not possible after those before it. Returns `ChoicesEnded` if all
 /// were possible and a root is still open. Returns `Stop::Budget` if the budget's turns were made and a further one
-/// could be handed out at the next choice, and no value then. Returns `Stop::Memory` if an allocation fails, in a turn too. After each of these the graph is
-/// lawful for the same history, no record is lost, and only nodes that were settled have new ones. That the tree is the
-/// last of the history for which the graph is lawful is the caller's condition.
+/// could be handed out at the next choice, and no value then. Returns `Stop::Memory` if an allocation fails, in a turn
+/// too. After each of these the graph is consistent for the same history, no record is lost, and only nodes that were
+/// settled have new ones. The tree must be the last of the history for which the graph is consistent.
 pub fn replay<R: Rules>(
     alloc: Global,
     graph: &mut Graph,
@@ -102,7 +102,7 @@ pub fn replay<R: Rules>(
             return Ok(Replayed::Done(close_stall(round, graph)?));
         }
         let choice = &choices[n];
-        match choose(&mut round, &mut turns, graph, tree, rules, left, choice) {
+        match play_choice(&mut round, &mut turns, graph, tree, rules, left, choice) {
             Ok(true) => left -= hands_in(choice),
             Ok(false) => return Ok(Replayed::NotLegal(n)),
             Err(stop) => return Err(stop),

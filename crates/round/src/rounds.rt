@@ -3,67 +3,67 @@ ghost use Rattle.std.specs.Prelude.{◌≡◌, ◌∷◌, List, length, Option, 
 ghost use Rattle.std.specs.Bool.{Decides};
 ghost use Rattle.std.specs.List.{All};
 ghost use Rattle.std.specs.BTreeMap.Range.{IsLeBy};
-ghost use Rattle.texts.specs.declared.memory.Memory.{Memory};
+ghost use Rattle.base_types.specs.declared.memory.Memory.{Memory};
 ghost use Rattle.node.specs.Graphs.{GraphView};
 ghost use Rattle.round.specs.NodeStates.{PutsState, HasState, DropsState};
-ghost use Rattle.evaluation.specs.Reply.{Reply};
-ghost use Rattle.evaluation.specs.Choices.{Choice, Hand, Back, Drop};
-ghost use Rattle.evaluation.specs.Value.{In};
+ghost use Rattle.engine_semantics.specs.Reply.{Reply};
+ghost use Rattle.engine_semantics.specs.Choices.{Choice, Hand, Back, Drop};
+ghost use Rattle.engine_semantics.specs.Value.{In};
 ghost use Rattle.keys.specs.Leaves as leaves;
 ghost use Rattle.keys.specs.Jobs.{Made};
 ghost use Rattle.keys.specs.Keys.{key_cmp};
 ghost use Rattle.keys.specs.declared.key.Key.{Key};
 ghost use Rattle.keys.specs.declared.value.Value.{Value};
-ghost use Rattle.open_nodes.specs.TurnCounts.{HasMade, MakesNone, turns_of};
-ghost use Rattle.open_nodes.specs.Nodes.{IsOpen};
-ghost use Rattle.open_nodes.specs.Truths.{LeadsBy};
+ghost use Rattle.round_nodes.specs.TurnCounts.{HasMade, MakesNoTurn, turns_of};
+ghost use Rattle.round_nodes.specs.Nodes.{IsOpen};
+ghost use Rattle.round_nodes.specs.Invariants.{KeepsInvariantBy};
 ghost use Rattle.round.specs.Choosing.{IsPossibleAfter, ForChoices, HandsWherePossible, TakesJobOut, StrangerWhereNotOut, Follows, FollowsHand, FollowsBack, IsFollowing};
-ghost use Rattle.round.specs.Since.{IsTrueSince, IsAfterSince};
-ghost use Rattle.round.specs.Moves.{StaysTrueBy, Ends, IsWanted};
-ghost use Rattle.round.specs.Rounds.{standing, StandsBeside, IsStalled, CanDrop, HandsOut, IsAsBefore, IsOfJobOut, NoneOpen, EndsWith, Refuses, TakesBack, KeepsJobs, KeepsAllJobs};
+ghost use Rattle.round.specs.Since.{HoldsSince, IsAfterSince};
+ghost use Rattle.round.specs.Moves.{StaysTrueBy, Ends, IsOpenOrSettled};
+ghost use Rattle.round.specs.Rounds.{round_view, AgreesWith, IsStalled, CanDrop, HandsOut, IsAsBefore, IsOfJobOut, NoneOpen, EndsWith, Refuses, TakesBack, KeepsJobs, KeepsAllJobs};
 ghost use Rattle.round.specs.Turning.{IsOutAt};
 ghost use Rattle.round.specs.Call.{Calls, HasOpenRoot, HasTurnToMake};
 ghost use Rattle.round.specs.Here.{TurnsOnce, Finishes};
 ghost use Rattle.round.specs.declared.stop.Stop.{Stop};
 
 use crate::close::close_cycles;
-use crate::look::{is_open, look_at_all, want_all};
 use crate::out_keys::OutKeys;
 use crate::stop::Stop;
-use crate::turns::{is_out_with, take, take_job, values_needed};
+use crate::turns::{accept_turn, is_out_with, take_job, values_needed};
+use crate::visiting::{is_open, open_all, visit_all};
+use base_types::Memory;
 use filetree::Tree;
 use indexmap::IndexMap;
-use keys::{Job, Key, Rules, Turned, Waiting};
+use keys::{Job, Key, PausedNode, Rules, Turned};
 use node::Graph;
-use open_nodes::{Nodes, Run, Table, set_out, share_all};
+use round_nodes::{Nodes, OpenNodes, Run, set_out, share_all};
 use std::alloc::Global;
-use texts::Memory;
 
-/// One evaluation of roots, turn by turn. It keeps neither the graph nor the tree: its calls are lent the same ones,
-/// changed by nothing else meanwhile, which is the caller's condition (the round stands beside the graph). Between two turns
-/// of a node its state is kept. A contract sees the roots, the open nodes with the runs so far, and the keys whose jobs are out.
+/// One evaluation of roots, turn by turn. It keeps neither the graph nor the tree: each of its calls must get the same
+/// ones, which nothing else changes meanwhile (the round agrees with the graph). Between two turns of a node its state
+/// is kept. A contract sees the roots, the open nodes with the runs so far, and the keys whose jobs are out.
 #[derive(Drop)]
 pub struct Round<R: Rules> {
     alloc: Global,
     roots: Vec<Key>,
-    table: Table,
+    table: OpenNodes,
     out: OutKeys,
-    kept: IndexMap<Key, Waiting<R>>,
+    kept: IndexMap<Key, PausedNode<R>>,
 }
 
 /// Why a turn was not taken back.
 #[derive(Drop)]
 pub enum TakeBackError<R: Rules> {
-    /// It is of no job that is out; the turn comes back, and nothing has changed.
+    /// It belongs to no job that is out. The turn is returned, and nothing has changed.
     Stranger(Turned<R>),
-    /// A growth was refused, in the turn or now. The round can only be given up.
+    /// An allocation failed, in the turn or now. The round can then only be dropped.
     Memory(Memory),
 }
 
 impl<R: Rules> From<Memory> for TakeBackError<R> {
     ghost use Rattle.std.specs.Prelude.{◌≡◌};
     ghost use Rattle.round.specs.declared.rounds.TakeBackError.TheVariants as not_taken;
-    ghost use Rattle.texts.specs.Refusals.{memory};
+    ghost use Rattle.base_types.specs.Refusals.{memory};
 
     ghost from_gives = { λ _ e. e ≡ not_taken.Memory memory };
 
@@ -73,9 +73,9 @@ impl<R: Rules> From<Memory> for TakeBackError<R> {
 }
 
 // Keeps the state, if there is one.
-fn keep<R: Rules>(
-    kept: &mut IndexMap<Key, Waiting<R>>,
-    paused: Option<Waiting<R>>,
+fn keep_state<R: Rules>(
+    kept: &mut IndexMap<Key, PausedNode<R>>,
+    paused: Option<PausedNode<R>>,
 ) -> Result<(), Memory>
     ensures { (key : Key) → IfSome paused (λ w. w.key ≡ key)
         → OnOk result (PutsState kept.old kept.new key paused) }
@@ -87,8 +87,8 @@ fn keep<R: Rules>(
     Ok(())
 }
 
-// Gives up the state that was kept of a key. Returns whether there was one.
-fn give_up<R: Rules>(kept: &mut IndexMap<Key, Waiting<R>>, key: &Key) -> bool
+// Discards the state that was kept of a key. Returns whether there was one.
+fn discard_state<R: Rules>(kept: &mut IndexMap<Key, PausedNode<R>>, key: &Key) -> bool
     ensures given { Decides result (HasState kept.old key.now) }
     ensures drops { DropsState kept.old kept.new key.now result }
 {
@@ -109,28 +109,28 @@ fn any_open(nodes: &Nodes, keys: &[Key]) -> bool
 }
 
 impl<R: Rules> Round<R> {
-    /// Opens a round: the roots are wanted, leaves among them are read, and each node that needs no turn is settled.
-    /// Returns `Memory` if an allocation fails; the graph is then lawful still, as after a stop.
+    /// Opens a round: opens the roots, reads the leaves among them, and settles each node that needs no turn. Returns
+    /// `Memory` if an allocation fails; the graph is then still consistent, as after a stop.
     pub fn open(
         alloc: Global,
         graph: &mut Graph,
         tree: &Tree,
         roots: Vec<Key>,
     ) -> Result<Round<R>, Memory>
-        ensures beside { IfOk result (λ round. StandsBeside graph.new round) }
-        ensures begins { IfOk result (λ round. ((standing round).roots ≡ roots.items)
-            × ((standing round).out ≡ [])) }
+        ensures beside { IfOk result (λ round. AgreesWith graph.new round) }
+        ensures begins { IfOk result (λ round. ((round_view round).roots ≡ roots.items)
+            × ((round_view round).out ≡ [])) }
         ensures made { IfOk result (λ round. HasMade round.table 0) }
-        ensures follows { IfOk result (λ round. Follows [] (standing round) round.kept) }
+        ensures follows { IfOk result (λ round. Follows [] (round_view round) round.kept) }
         ensures truth { IfOk result (λ round. (next : Key → List Value → Reply Key Value)
-            → IsTrueSince [] next (leaves.read tree.now) roots.items graph.old graph.new
+            → HoldsSince [] next (leaves.read tree.now) roots.items graph.old graph.new
             round.table) }
         ensures stopped { OnErr result ((next : Key → List Value → Reply Key Value)
             → IsAfterSince next (leaves.read tree.now) roots.items graph.old graph.new) }
     {
-        let mut table = Table::new(alloc);
-        want_all(alloc, graph, tree, &mut table, roots.as_slice())?;
-        look_at_all(alloc, graph, tree, &mut table)?;
+        let mut table = OpenNodes::new(alloc);
+        open_all(alloc, graph, tree, &mut table, roots.as_slice())?;
+        visit_all(alloc, graph, tree, &mut table)?;
         Ok(Round {
             alloc,
             roots,
@@ -140,42 +140,42 @@ impl<R: Rules> Round<R> {
         })
     }
 
-    /// Returns the least key whose next turn can be handed out. It takes no memory.
+    /// Returns the least key whose next turn can be handed out. It allocates nothing.
     pub fn ready(&self) -> Option<&Key>
-        ensures some { IfSome result (λ k. In k.now (standing self.now).table.ready.keys) }
-        ensures none { IfNone result ((standing self.now).table.ready.keys ≡ []) }
+        ensures some { IfSome result (λ k. In k.now (round_view self.now).table.ready.keys) }
+        ensures none { IfNone result ((round_view self.now).table.ready.keys ≡ []) }
         ensures least { IfSome result
-            (λ k. All (IsLeBy key_cmp k.now) (standing self.now).table.ready.keys) }
+            (λ k. All (IsLeBy key_cmp k.now) (round_view self.now).table.ready.keys) }
     {
         self.table.ready.first()
     }
 
-    /// Returns how many keys' next turns can be handed out. It takes no memory.
+    /// Returns for how many keys the next turn can be handed out. It allocates nothing.
     pub fn ready_count(&self) -> usize
-        ensures { result ≡ length (standing self.now).table.ready.keys }
+        ensures { result ≡ length (round_view self.now).table.ready.keys }
     {
         self.table.ready.len()
     }
 
-    /// Hands out the next turn of a key, with all answers so far. Returns `None` exactly if the key is not ready. It
-    /// then does not run, or is settled, or its job is out, or the last group that it asked is not settled with values.
-    /// Returns `Memory` if an allocation fails; the round is then as before.
+    /// Hands out the next turn of a key, with all answers so far. Returns `None` exactly if the key is not ready. In
+    /// that case it does not run, or is settled, or its job is out, or the last group that it asked for is not settled
+    /// with values. Returns `Memory` if an allocation fails; the round is then as before.
     pub fn hand_out(&mut self, graph: &Graph, key: &Key) -> Result<Option<Job<R>>, Memory>
-        requires { StandsBeside graph.now self.old }
-        ensures beside { StandsBeside graph.now self.new }
-        ensures hands { IfOk result (HandsOut graph.now key.now (standing self.old)
-            (standing self.new)) }
+        requires { AgreesWith graph.now self.old }
+        ensures beside { AgreesWith graph.now self.new }
+        ensures hands { IfOk result (HandsOut graph.now key.now (round_view self.old)
+            (round_view self.new)) }
         ensures truth { (read : Key → Option Value)
             → IfOk result
             (λ job. IfSome job (λ j. StaysTrueBy (Hand key.now ∷ []) read graph.now graph.now
             self.old.table self.new.table)) }
-        ensures follows { IfOk result (FollowsHand key.now (standing self.old) self.old.kept
-            (standing self.new) self.new.kept) }
+        ensures follows { IfOk result (FollowsHand key.now (round_view self.old) self.old.kept
+            (round_view self.new) self.new.kept) }
         ensures possible { (read : Key → Option Value)
-            → IfOk result (HandsWherePossible read graph.now (standing self.old) key.now) }
+            → IfOk result (HandsWherePossible read graph.now (round_view self.old) key.now) }
         ensures refused { OnErr result (IsAsBefore self.old self.new) }
         ensures others { OnOk result
-            (KeepsAllJobs graph.now (standing self.old) (standing self.new)) }
+            (KeepsAllJobs graph.now (round_view self.old) (round_view self.new)) }
     {
         let needed = values_needed(self.alloc, graph, &self.table, &self.kept, key)?;
         let Some(found) = needed else {
@@ -195,28 +195,28 @@ impl<R: Rules> Round<R> {
         }
     }
 
-    /// Takes a turn back: its node is settled, or asks its next group. Then each node that needs no turn is settled.
-    /// Returns `Stranger` exactly if its key and answers are of no job that is out. Returns `Memory` if an allocation
-    /// failed, in the turn or now. The round can then only be given up, and the graph is as after a stop.
+    /// Takes a turn back: its node is settled, or asks for its next group. Then each node that needs no turn is
+    /// settled. Returns `Stranger` exactly if its key and answers are of no job that is out. Returns `Memory` if an
+    /// allocation failed, in the turn or now. The round can then only be dropped, and the graph is as after a stop.
     pub fn take_back(
         &mut self,
         graph: &mut Graph,
         tree: &Tree,
         turned: Turned<R>,
     ) -> Result<(), TakeBackError<R>>
-        requires { StandsBeside graph.old self.old }
-        ensures beside { OnOk result (StandsBeside graph.new self.new) }
-        ensures back { OnOk result (IsOfJobOut graph.old (standing self.old) turned.asked
-            × TakesBack (standing self.old) (standing self.new) turned.asked.key
+        requires { AgreesWith graph.old self.old }
+        ensures beside { OnOk result (AgreesWith graph.new self.new) }
+        ensures back { OnOk result (IsOfJobOut graph.old (round_view self.old) turned.asked
+            × TakesBack (round_view self.old) (round_view self.new) turned.asked.key
             × (turned.ending ≡ Made)) }
-        ensures truth { LeadsBy (Back turned.asked.key ∷ []) R.next (leaves.read tree.now) graph.old
-            graph.new self.old.table self.new.table result }
+        ensures truth { KeepsInvariantBy (Back turned.asked.key ∷ []) R.next (leaves.read tree.now)
+            graph.old graph.new self.old.table self.new.table result }
         ensures others { OnOk result (KeepsJobs turned.asked.key graph.old graph.new
-            (standing self.old) (standing self.new)) }
+            (round_view self.old) (round_view self.new)) }
         ensures possible { (read : Key → Option Value)
-            → OnOk result (TakesJobOut read graph.old (standing self.old) turned.asked) }
+            → OnOk result (TakesJobOut read graph.old (round_view self.old) turned.asked) }
         ensures strange { (read : Key → Option Value)
-            → IfErr result (StrangerWhereNotOut read graph.old (standing self.old) turned.asked) }
+            → IfErr result (StrangerWhereNotOut read graph.old (round_view self.old) turned.asked) }
         ensures follows { (read : Key → Option Value)
             → OnOk result (FollowsBack read graph.old turned.asked.key self.old self.new) }
         ensures refused { IfErr result (Refuses graph.old graph.new self.old self.new turned) }
@@ -228,8 +228,8 @@ impl<R: Rules> Round<R> {
         Ok(())
     }
 
-    /// Takes a turn back that the caller knows to be of a job that is out, without comparing its answers. Returns
-    /// `Memory` if an allocation failed, in the turn or now. The round can then only be given up, and the graph is as
+    /// Takes back a turn that the caller knows to be of a job that is out, without comparing its answers. Returns
+    /// `Memory` if an allocation failed, in the turn or now. The round can then only be dropped, and the graph is as
     /// after a stop.
     pub fn take_known(
         &mut self,
@@ -237,70 +237,71 @@ impl<R: Rules> Round<R> {
         tree: &Tree,
         turned: Turned<R>,
     ) -> Result<(), Memory>
-        requires beside { StandsBeside graph.old self.old }
-        requires out { IsOfJobOut graph.old (standing self.old) turned.asked }
-        ensures beside { OnOk result (StandsBeside graph.new self.new) }
+        requires beside { AgreesWith graph.old self.old }
+        requires out { IsOfJobOut graph.old (round_view self.old) turned.asked }
+        ensures beside { OnOk result (AgreesWith graph.new self.new) }
         ensures back { OnOk result
-            (TakesBack (standing self.old) (standing self.new) turned.asked.key) }
+            (TakesBack (round_view self.old) (round_view self.new) turned.asked.key) }
         ensures made { OnOk result (turned.ending ≡ Made) }
         ensures follows { (read : Key → Option Value)
             → OnOk result (FollowsBack read graph.old turned.asked.key self.old self.new) }
         ensures others { OnOk result (KeepsJobs turned.asked.key graph.old graph.new
-            (standing self.old) (standing self.new)) }
-        ensures truth { LeadsBy (Back turned.asked.key ∷ []) R.next (leaves.read tree.now) graph.old
-            graph.new self.old.table self.new.table result }
+            (round_view self.old) (round_view self.new)) }
+        ensures truth { KeepsInvariantBy (Back turned.asked.key ∷ []) R.next (leaves.read tree.now)
+            graph.old graph.new self.old.table self.new.table result }
     {
         self.out.remove(turned.key());
-        let paused = take(self.alloc, graph, &mut self.table, turned)?;
-        look_at_all(self.alloc, graph, tree, &mut self.table)?;
-        keep(&mut self.kept, paused)?;
+        let paused = accept_turn(self.alloc, graph, &mut self.table, turned)?;
+        visit_all(self.alloc, graph, tree, &mut self.table)?;
+        keep_state(&mut self.kept, paused)?;
         Ok(())
     }
 
-    /// Gives up the state that was kept of a node: its next turn begins anew then, with all answers. Returns whether it
-    /// did: exactly if a state is kept and the round is not at a stall. If not, nothing changes. It takes no memory.
+    /// Discards the kept state of a node, whose next turn then begins from scratch, with all answers. Returns whether
+    /// it did, which is exactly if a state is kept and the round is not at a stall. Otherwise nothing changes. It
+    /// allocates nothing.
     pub fn drop_state(&mut self, key: &Key) -> bool
-        ensures dropped { Decides result (CanDrop (standing self.old) self.old.kept key.now) }
-        ensures not_out { (graph : GraphView) → StandsBeside graph self.old → IsTrue result
+        ensures dropped { Decides result (CanDrop (round_view self.old) self.old.kept key.now) }
+        ensures not_out { (graph : GraphView) → AgreesWith graph self.old → IsTrue result
             → IsOutAt self.old.table key.now → ⊥ }
         ensures kept { DropsState self.old.kept self.new.kept key.now result }
         ensures possible { (read : Key → Option Value) (graph : GraphView)
-            → StandsBeside graph self.old → ForChoices read graph (standing self.old)
-            (λ next past cs. Follows cs (standing self.old) self.old.kept
+            → AgreesWith graph self.old → ForChoices read graph (round_view self.old)
+            (λ next past cs. Follows cs (round_view self.old) self.old.kept
             → Decides result (IsPossibleAfter next read past cs (Drop key.now))) }
-        ensures follows { IsTrue result → (cs : List (Choice Key)) → Follows cs (standing self.old)
-            self.old.kept → Follows (Drop key.now ∷ cs) (standing self.new) self.new.kept }
+        ensures follows { IsTrue result → (cs : List (Choice Key)) → Follows cs (round_view
+            self.old) self.old.kept → Follows (Drop key.now ∷ cs) (round_view self.new)
+            self.new.kept }
         ensures truth { (read : Key → Option Value) (graph : GraphView)
             → StaysTrueBy (Drop key.now ∷ []) read graph graph self.old.table self.new.table }
-        ensures same { standing self.new ≡ standing self.old }
-        ensures beside { (graph : GraphView) → StandsBeside graph self.old
-            → StandsBeside graph self.new }
+        ensures same { round_view self.new ≡ round_view self.old }
+        ensures beside { (graph : GraphView) → AgreesWith graph self.old
+            → AgreesWith graph self.new }
     {
         if self.stalled() {
             return false;
         }
-        give_up(&mut self.kept, key)
+        discard_state(&mut self.kept, key)
     }
 
-    /// Returns whether no turn can be handed out and no job is out. It takes no memory.
+    /// Returns whether no turn can be handed out and no job is out. It allocates nothing.
     pub fn stalled(&self) -> bool
-        ensures { Decides result (IsStalled (standing self.now)) }
+        ensures { Decides result (IsStalled (round_view self.now)) }
     {
         self.table.ready.len() == 0 && self.out.is_empty()
     }
 
-    /// Settles all open nodes at a stall, each with the loop to which it leads, all or none. That the round is stalled
-    /// is the caller's condition. Returns `Memory` if an allocation fails. The round can then only be given up, and the
-    /// graph is as before.
+    /// Settles all open nodes at a stall, each with the cycle into which it leads, all or none. Returns `Memory` if an
+    /// allocation fails. The round can then only be dropped, and the graph is as before.
     pub fn close_cycles(&mut self, graph: &mut Graph) -> Result<(), Memory>
-        requires beside { StandsBeside graph.old self.old }
-        requires stalled { IsStalled (standing self.old) }
-        ensures none { OnOk result (NoneOpen (standing self.new)) }
-        ensures wanted { OnOk result ((k : Key) → In k (standing self.new).roots
-            → IsWanted graph.new self.new.table k) }
-        ensures same { ((standing self.new).roots ≡ (standing self.old).roots)
-            × ((standing self.new).out ≡ (standing self.old).out) }
-        ensures turns { OnOk result (MakesNone self.old.table self.new.table) }
+        requires beside { AgreesWith graph.old self.old }
+        requires stalled { IsStalled (round_view self.old) }
+        ensures none { OnOk result (NoneOpen (round_view self.new)) }
+        ensures wanted { OnOk result ((k : Key) → In k (round_view self.new).roots
+            → IsOpenOrSettled graph.new self.new.table k) }
+        ensures same { ((round_view self.new).roots ≡ (round_view self.old).roots)
+            × ((round_view self.new).out ≡ (round_view self.old).out) }
+        ensures turns { OnOk result (MakesNoTurn self.old.table self.new.table) }
         ensures truth { (read : Key → Option Value) → Ends read graph.old graph.new self.old.table
             self.new.table result }
         ensures refused { OnErr result (graph.new ≡ graph.old) }
@@ -310,15 +311,15 @@ impl<R: Rules> Round<R> {
         Ok(())
     }
 
-    /// Returns the runs in the order of settling if no root is open any more, and the round again if one is. Where no
-    /// root is open, no turn can be handed out and no job is out. It takes no memory.
+    /// Returns the runs in the order of settling if no root is open any more, and the round itself if one is. If no
+    /// root is open, no turn can be handed out and no job is out. It allocates nothing.
     pub fn finish(self) -> Result<Vec<Run>, Round<R>>
-        ensures done { IfOk result (λ runs. EndsWith (standing self) (Ok runs.items)) }
-        ensures open { IfErr result (λ round. EndsWith (standing self) (Err (standing round))) }
+        ensures done { IfOk result (λ runs. EndsWith (round_view self) (Ok runs.items)) }
+        ensures open { IfErr result (λ round. EndsWith (round_view self) (Err (round_view round))) }
         ensures same { IfErr result (λ round. round ≡ self) }
-        ensures stalled { (read : Key → Option Value) (graph : GraphView) → StandsBeside graph self
-            → ForChoices read graph (standing self) (λ next past cs. IsFollowing cs self
-            → IfOk result (λ runs. IsStalled (standing self))) }
+        ensures stalled { (read : Key → Option Value) (graph : GraphView) → AgreesWith graph self
+            → ForChoices read graph (round_view self) (λ next past cs. IsFollowing cs self
+            → IfOk result (λ runs. IsStalled (round_view self))) }
     {
         if any_open(&self.table.nodes, self.roots.as_slice()) {
             return Err(self);
@@ -335,14 +336,14 @@ impl<R: Rules> Round<R> {
 }
 
 // Returns the runs of a table.
-fn runs_of(table: Table) -> Vec<Run>
+fn runs_of(table: OpenNodes) -> Vec<Run>
     ensures { result.items ≡ table.runs.items }
 {
-    let Table {
+    let OpenNodes {
         nodes: _,
         ready: _,
-        work: _,
-        looked: _,
+        queue: _,
+        visited: _,
         runs,
     } = table;
     runs
@@ -352,10 +353,10 @@ fn runs_of(table: Table) -> Vec<Run>
 /// an allocation fails.
 pub fn next_key<R: Rules>(round: &Round<R>) -> Result<Option<Key>, Memory>
     ensures some { IfOk result
-        (λ k. IfSome k (λ key. In key (standing round.now).table.ready.keys)) }
-    ensures none { IfOk result (λ k. IfNone k ((standing round.now).table.ready.keys ≡ [])) }
+        (λ k. IfSome k (λ key. In key (round_view round.now).table.ready.keys)) }
+    ensures none { IfOk result (λ k. IfNone k ((round_view round.now).table.ready.keys ≡ [])) }
     ensures least { IfOk result
-        (λ k. IfSome k (λ key. All (IsLeBy key_cmp key) (standing round.now).table.ready.keys)) }
+        (λ k. IfSome k (λ key. All (IsLeBy key_cmp key) (round_view round.now).table.ready.keys)) }
 {
     match round.ready() {
         None => Ok(None),
@@ -363,32 +364,31 @@ pub fn next_key<R: Rules>(round: &Round<R>) -> Result<Option<Key>, Memory>
     }
 }
 
-/// Returns whether the next turn of some key can be handed out. It takes no memory.
+/// Returns whether the next turn of some key can be handed out. It allocates nothing.
 pub fn has_ready<R: Rules>(round: &Round<R>) -> bool
-    ensures yes { IsTrue result → (k : Key) × In k (standing round.now).table.ready.keys }
-    ensures no { result ≡ false → (standing round.now).table.ready.keys ≡ [] }
+    ensures yes { IsTrue result → (k : Key) × In k (round_view round.now).table.ready.keys }
+    ensures no { result ≡ false → (round_view round.now).table.ready.keys ≡ [] }
 {
     round.ready().is_some()
 }
 
-/// Makes the next turn of a key by these rules, on this thread: it is handed out, made and taken back. That the key is
-/// ready is the caller's condition. Returns `Memory` if an allocation fails. The round can then only be given up, and
-/// the graph is as after a stop.
-pub fn turn<R: Rules>(
+/// Makes the next turn of a key that is ready by these rules, on this thread: it is handed out, made and taken back.
+/// Returns `Memory` if an allocation fails. The round can then only be dropped, and the graph is as after a stop.
+pub fn make_turn<R: Rules>(
     round: &mut Round<R>,
     graph: &mut Graph,
     tree: &Tree,
     rules: &mut R,
     key: &Key,
 ) -> Result<(), Memory>
-    requires beside { StandsBeside graph.old round.old }
-    requires ready { In key.now (standing round.old).table.ready.keys }
+    requires beside { AgreesWith graph.old round.old }
+    requires ready { In key.now (round_view round.old).table.ready.keys }
     ensures turns { OnOk result (TurnsOnce graph.old graph.new round.old round.new) }
     ensures counted { OnOk result (R.turns rules.new ≡ R.turns rules.old + 1) }
     ensures at_most { (R.turns rules.old ≤ R.turns rules.new)
         × (R.turns rules.new ≤ R.turns rules.old + 1) }
-    ensures truth { LeadsBy (Back key.now ∷ Hand key.now ∷ []) R.next (leaves.read tree.now)
-        graph.old graph.new round.old.table round.new.table result }
+    ensures truth { KeepsInvariantBy (Back key.now ∷ Hand key.now ∷ []) R.next (leaves.read
+        tree.now) graph.old graph.new round.old.table round.new.table result }
 {
     match round.hand_out(graph, key)? {
         None => unreachable!(),
@@ -400,19 +400,19 @@ pub fn turn<R: Rules>(
     }
 }
 
-/// Closes the open nodes of a round at a stall, and returns its runs. That the round is at a stall is the caller's
-/// condition. Returns `Memory` if an allocation fails; the graph is then as after a stop.
+/// Closes the open nodes of a round at a stall, and returns its runs. Returns `Memory` if an allocation fails; the
+/// graph is then as after a stop.
 pub fn close_stall<R: Rules>(mut round: Round<R>, graph: &mut Graph) -> Result<Vec<Run>, Memory>
-    requires beside { StandsBeside graph.old round }
-    requires stalled { IsStalled (standing round) }
+    requires beside { AgreesWith graph.old round }
+    requires stalled { IsStalled (round_view round) }
     ensures made { IfOk result (λ runs. (made : ℕ) → HasMade round.table made
         → made ≡ turns_of runs.items) }
     ensures law { IfOk result
         (λ runs. (read : Key → Option Value) (next : Key → List Value → Reply Key Value)
-        → Finishes {E = Stop} next read graph.old graph.new (standing round) (Ok runs.items)) }
+        → Finishes {E = Stop} next read graph.old graph.new (round_view round) (Ok runs.items)) }
     ensures stopped { IfErr result
         (λ e. (read : Key → Option Value) (next : Key → List Value → Reply Key Value)
-        → Finishes {E = Memory} next read graph.old graph.new (standing round) (Err e)) }
+        → Finishes {E = Memory} next read graph.old graph.new (round_view round) (Err e)) }
 {
     round.close_cycles(graph)?;
     match round.finish() {
@@ -421,17 +421,17 @@ pub fn close_stall<R: Rules>(mut round: Round<R>, graph: &mut Graph) -> Result<V
     }
 }
 
-/// Evaluates the roots over the graph on one thread, in at most `budget` turns of the rules. Each root is settled then
+/// Evaluates the roots over the graph on one thread, in at most `budget` turns of the rules. Each root is then settled
 /// with its value at the tree's files. Returns the runs of this call, in the order in which their nodes were settled.
 ///
-/// A node with a record that is marked checks the groups of its record in their order. If no member has changed since,
-/// it is settled without a turn, and at the first group with a changed member it runs. If no turn can be made any more,
-/// the open nodes lead into loops, and are settled with these.
+/// A node with a dirty record checks the groups of its record in their order. If no member has changed since, it is
+/// settled without a turn, and at the first group with a changed member it runs. If no turn can be made any more, the
+/// open nodes lead into cycles, and are settled with these.
 ///
 /// Returns `Stop::Budget` if the budget is spent and a further turn is to be made. The round is then at no stall, and a
-/// root is still open. Returns `Stop::Memory` if an allocation fails. After a stop the graph is lawful for the same
-/// history, no record is lost, and only nodes that were settled have new ones. That the tree is the last of the history
-/// for which the graph is lawful is the caller's condition.
+/// root is still open. Returns `Stop::Memory` if an allocation fails. After a stop the graph is consistent for the same
+/// history, no record is lost, and only nodes that were settled have new ones. The tree must be the last of the history
+/// for which the graph is consistent.
 pub fn evaluate_here<R: Rules>(
     alloc: Global,
     graph: &mut Graph,
@@ -458,7 +458,7 @@ pub fn evaluate_here<R: Rules>(
     for _made in 0..budget {
         match next_key(&round)? {
             None => return Ok(close_stall(round, graph)?),
-            Some(key) => turn(&mut round, graph, tree, rules, &key)?,
+            Some(key) => make_turn(&mut round, graph, tree, rules, &key)?,
         }
     }
     if has_ready(&round) {

@@ -1,6 +1,6 @@
 //! Why an evaluation ended early.
+use base_types::Memory;
 use std::alloc::{AllocError, AllocFailed};
-use texts::Memory;
 use thiserror::Error;
 
 /// Why an evaluation ended early.
@@ -9,7 +9,7 @@ pub enum Stop {
     /// The budget of turns is spent.
     #[error("budget spent")]
     Budget,
-    /// A growth was refused.
+    /// An allocation failed.
     #[error("out of memory")]
     Memory(Memory),
 }
@@ -17,7 +17,7 @@ pub enum Stop {
 impl From<Memory> for Stop {
     ghost use Rattle.std.specs.Prelude.{◌≡◌};
     ghost use Rattle.round.specs.declared.stop.Stop.TheVariants.{Memory};
-    ghost use Rattle.texts.specs.Refusals.{memory};
+    ghost use Rattle.base_types.specs.Refusals.{memory};
 
     ghost from_gives = { λ _ e. e ≡ Memory memory };
 

@@ -1,9 +1,9 @@
-//! Turns handed out and taken back.
+//! Turns that are handed out and taken back.
 ghost use Rattle.std.specs.Prelude.{◌≡◌, ◌++◌, ◌∷◌, [], List, IfOk, IfSome, IfNone, OnOk, OnErr, Option, Some, None, IsTrue};
 ghost use Rattle.indexmap.specs.IndexMap.{get, Updates};
 ghost use Rattle.std.specs.Option.{option_map};
 ghost use Rattle.node.specs.Graphs.{record_at};
-ghost use Rattle.open_nodes.specs.Members.{Answers};
+ghost use Rattle.round_nodes.specs.Members.{Answers};
 ghost use Rattle.round.specs.NodeStates.{IsPaused, ArePaused, NeedsValues, SameStates, TakesOut, kept_answers};
 ghost use Rattle.std.specs.Bool.{Decides};
 ghost use Rattle.keys.specs.Turns.{values};
@@ -13,25 +13,25 @@ ghost use Rattle.keys.specs.declared.key.Key.{Key};
 ghost use Rattle.keys.specs.declared.value.Value.{Value};
 ghost use Rattle.keys.specs.Jobs.{Made, Waits};
 ghost use Rattle.node.specs.Records.{items_of};
-ghost use Rattle.open_nodes.specs.Nodes.{node_at, groups_of, IsClean};
-ghost use Rattle.open_nodes.specs.Truths.{LeadsBy};
-ghost use Rattle.evaluation.specs.Choices.{Back};
-ghost use Rattle.open_nodes.specs.declared.table.Node.{Node};
-ghost use Rattle.open_nodes.specs.declared.table.Phase.TheVariants as phase;
-ghost use Rattle.round.specs.Frames.{KeepsFrameBut};
-ghost use Rattle.round.specs.Moves.{KeepsWanted, IsWholeNow};
+ghost use Rattle.round_nodes.specs.Nodes.{node_at, groups_of, IsClean};
+ghost use Rattle.round_nodes.specs.Invariants.{KeepsInvariantBy};
+ghost use Rattle.engine_semantics.specs.Choices.{Back};
+ghost use Rattle.round_nodes.specs.declared.table.Node.{Node};
+ghost use Rattle.round_nodes.specs.declared.table.Phase.TheVariants as phase;
+ghost use Rattle.round.specs.Frames.{KeepsOthersBut};
+ghost use Rattle.round.specs.Moves.{KeepsOpened, IsInOrder};
 ghost use Rattle.round.specs.Turning.{IsOutWith, ComesBack};
 
-use crate::look::end;
+use crate::visiting::finish_node;
+use base_types::Memory;
 use indexmap::IndexMap;
-use keys::{Job, Key, Rules, Step, Turned, Value, Waiting};
+use keys::{Job, Key, PausedNode, Rules, TurnEnd, Turned, Value};
 use node::Graph;
-use open_nodes::{Nodes, Phase, Table, answers_to, ask, share_all};
+use round_nodes::{Nodes, OpenNodes, Phase, answers_to, ask_group, share_all};
 use std::alloc::Global;
 use std::sync::Arc;
-use texts::Memory;
 
-// Returns the groups that a node's turns asked.
+// Returns the groups that a node's turns asked for.
 fn asked_groups<'a>(nodes: &'a Nodes, key: &Key) -> &'a [Vec<Key>]
     ensures { (n : Node) → node_at nodes.now key.now ≡ Some n → items_of result.now ≡ groups_of n }
 {
@@ -41,11 +41,11 @@ fn asked_groups<'a>(nodes: &'a Nodes, key: &Key) -> &'a [Vec<Key>]
     }
 }
 
-// Returns the values of the members of the last group that a node asked.
+// Returns the values of the members of the last group that a node asked for.
 fn last_answers(
     alloc: Global,
     graph: &Graph,
-    table: &Table,
+    table: &OpenNodes,
     key: &Key,
 ) -> Result<Option<Vec<Arc<Value>>>, Memory>
     ensures { IfOk result (λ found. (n : Node) (passed : List (List Key)) (group : List Key)
@@ -58,16 +58,16 @@ fn last_answers(
     Ok(found)
 }
 
-/// Returns the values that the next turn of a node needs beside its kept state, if it is ready: those of its last group,
-/// or of all its groups if no state is kept.
+/// Returns the values that the next turn of a node needs in addition to its kept state, if it is ready: those of its
+/// last group, or of all its groups if no state is kept.
 pub fn values_needed<R: Rules>(
     alloc: Global,
     graph: &Graph,
-    table: &Table,
-    kept: &IndexMap<Key, Waiting<R>>,
+    table: &OpenNodes,
+    kept: &IndexMap<Key, PausedNode<R>>,
     key: &Key,
 ) -> Result<Option<Vec<Arc<Value>>>, Memory>
-    requires whole { IsWholeNow graph.now table.now }
+    requires whole { IsInOrder graph.now table.now }
     requires paused { ArePaused graph.now table.now kept.now }
     ensures { IfOk result (λ found. NeedsValues graph.now table.now kept.now key.now
         (option_map (λ v. values v.items) found)) }
@@ -81,9 +81,9 @@ pub fn values_needed<R: Rules>(
     Ok(answers_to(alloc, graph, asked_groups(&table.nodes, key))?)
 }
 
-// Puts the values behind the answers that the kept state of a key has.
+// Adds the values to the answers that the kept state of a key has.
 fn answer_kept<R: Rules>(
-    kept: &mut IndexMap<Key, Waiting<R>>,
+    kept: &mut IndexMap<Key, PausedNode<R>>,
     key: &Key,
     found: Vec<Arc<Value>>,
 ) -> Result<(), Memory>
@@ -98,10 +98,11 @@ fn answer_kept<R: Rules>(
     Ok(())
 }
 
-/// Returns the job of the next turn of a key, from its kept state or anew, with these values behind the answers that
-/// the state has. The state is kept no more then. Returns `Memory` if an allocation fails; all states stay then.
+/// Returns the job of the next turn of a key, from its kept state or from scratch, with these values after the answers
+/// that the state has. The state is then no longer kept. Returns `Memory` if an allocation fails; all states are then
+/// kept.
 pub fn take_job<R: Rules>(
-    kept: &mut IndexMap<Key, Waiting<R>>,
+    kept: &mut IndexMap<Key, PausedNode<R>>,
     key: Key,
     found: Vec<Arc<Value>>,
 ) -> Result<Job<R>, Memory>
@@ -147,10 +148,10 @@ fn is_out(nodes: &Nodes, key: &Key) -> bool
 pub fn is_out_with<R: Rules>(
     alloc: Global,
     graph: &Graph,
-    table: &Table,
+    table: &OpenNodes,
     turned: &Turned<R>,
 ) -> Result<bool, Memory>
-    requires whole { IsWholeNow graph.now table.now }
+    requires whole { IsInOrder graph.now table.now }
     ensures { IfOk result
         (λ b. Decides b
         (IsOutWith graph.now table.now turned.now.asked.key turned.now.asked.answers)) }
@@ -164,36 +165,36 @@ pub fn is_out_with<R: Rules>(
     }
 }
 
-/// Takes a turn back: its node ends, or asks its next group, and its state may be kept.
-pub fn take<R: Rules>(
+/// Takes back a turn: its node ends, or asks for its next group, and its state may be kept.
+pub fn accept_turn<R: Rules>(
     alloc: Global,
     graph: &mut Graph,
-    table: &mut Table,
+    table: &mut OpenNodes,
     turned: Turned<R>,
-) -> Result<Option<Waiting<R>>, Memory>
-    requires whole { IsWholeNow graph.old table.old }
+) -> Result<Option<PausedNode<R>>, Memory>
+    requires whole { IsInOrder graph.old table.old }
     requires out { IsOutWith graph.old table.old turned.asked.key turned.asked.answers }
-    ensures whole { OnOk result (IsWholeNow graph.new table.new) }
+    ensures whole { OnOk result (IsInOrder graph.new table.new) }
     ensures back { OnOk result (ComesBack table.old table.new turned.asked.key) }
-    ensures keeps { OnOk result (KeepsWanted graph.old graph.new table.old table.new) }
-    ensures frame { OnOk result (KeepsFrameBut turned.asked.key graph.old graph.new table.old
+    ensures keeps { OnOk result (KeepsOpened graph.old graph.new table.old table.new) }
+    ensures frame { OnOk result (KeepsOthersBut turned.asked.key graph.old graph.new table.old
         table.new) }
-    ensures truth { (read : Key → Option Value) → LeadsBy (Back turned.asked.key ∷ []) R.next read
-        graph.old graph.new table.old table.new result }
+    ensures truth { (read : Key → Option Value) → KeepsInvariantBy (Back turned.asked.key ∷ [])
+        R.next read graph.old graph.new table.old table.new result }
     ensures made { OnOk result (turned.ending ≡ Made) }
     ensures paused { IfOk result
         (λ paused. IfSome paused (λ w. IsPaused graph.new table.new turned.asked.key w)) }
     ensures ended { IfOk result
         (λ paused. IfNone paused (IsClean (record_at graph.new) turned.asked.key)) }
 {
-    match turned.settle()? {
-        Step::End(key, value) => {
-            end(alloc, graph, table, key, value)?;
+    match turned.into_end()? {
+        TurnEnd::Done(key, value) => {
+            finish_node(alloc, graph, table, key, value)?;
             Ok(None)
         }
-        Step::Wait(waiting) => {
+        TurnEnd::Paused(waiting) => {
             let group = share_all(alloc, waiting.group())?;
-            ask(table, waiting.key(), group)?;
+            ask_group(table, waiting.key(), group)?;
             Ok(Some(waiting))
         }
     }

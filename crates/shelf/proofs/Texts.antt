@@ -3,7 +3,7 @@ use Rattle.std.proofs.Common.{◌≡◌, ℕ, Bool, true, false, ◌&&◌, ◌||
 use Rattle.std.proofs.lemmas.Bool.Decides.{nat_tests}
 use Rattle.std.specs.Prelude.{Option}
 use Rattle.std.specs.List.{list_any}
-use Rattle.shelf.specs.Lists.{same_text, or_else, published, entry}
+use Rattle.shelf.specs.Lists.{same_text, or_else, last_text, entry}
 use Rattle.shelf.specs.Laws.{EachNameHasItsText}
 use Rattle.shelf.proofs.Entries.{entry_snoc}
 
@@ -34,7 +34,7 @@ chosen true x z = refl
 chosen false x z = refl
 
 each : (version : ℕ) (text : List ℕ → List ℕ) (names : List (List ℕ)) (name : List ℕ)
-    → published version (map (λ n. (n, text n)) names) name ≡ cond (list_any (λ n. same_text n name) names) (Some (version, text name)) None
+    → last_text version (map (λ n. (n, text n)) names) name ≡ cond (list_any (λ n. same_text n name) names) (Some (version, text name)) None
 each version text [] name = refl
 each version text (n ∷ ns) name =
     ap (λ p. or_else p (cond (same_text n name) (Some (version, text n)) None)) (each version text ns name)

@@ -1,4 +1,4 @@
--- What readers know, what the keeper has published, and what it tells.
+-- What readers know, what the keeper has published, and what it makes known.
 use Rattle.std.specs.Prelude.{◌≡◌, List}
 use Rattle.logbook.specs.Pages.{Book}
 use Rattle.shelf.specs.declared.publish.Publish.{Publish}
@@ -7,11 +7,11 @@ use Rattle.shelf.specs.declared.reader.Told.{Told}
 use Rattle.shelf.specs.declared.keeper.Keeper.{Keeper}
 use Rattle.shelf.specs.Rules.{publishes_of}
 
--- the beginning of the list that the reader has seen or learnt
+-- the prefix of the list that the reader has seen or learnt
 abbrev pub known_to : Reader → List Publish
 known_to reader = reader.list.known.log
 
--- the list that ends with the publish of which the keeper tells
+-- the list that ends with the publish that the keeper makes known
 abbrev pub told_in : Told → List Publish
 told_in told = told.list.known.log
 
@@ -19,16 +19,16 @@ told_in told = told.list.known.log
 abbrev pub shelf_read_by : Reader → Book
 shelf_read_by reader = reader.list.known.book
 
--- the shelf of which the keeper tells
+-- the shelf that the keeper makes known
 abbrev pub shelf_told_of : Told → Book
 shelf_told_of told = told.list.known.book
 
 module _ {R : Type 0} where
-  -- what was published, and what was refused but taken up, in order
+  -- what was published, and what was taken up though the call failed, in order
   abbrev pub published_by : Keeper R → List Publish
   published_by keeper = keeper.list.known.log
 
-  -- the list after which readers find what names have, that enter before the keeper's next call
+  -- the list of which readers find what names have, if they enter before the keeper's next call
   abbrev pub shown_by : Keeper R → List Publish
   shown_by keeper = publishes_of keeper.writer.desk.shown.value.contents.log.items
 

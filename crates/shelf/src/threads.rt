@@ -13,7 +13,7 @@ fn crossing<T: Send>(value: T) -> T
 }
 
 // Returns the same value, of any type that several threads may share.
-fn shared<T: Send + Sync>(value: T) -> T
+fn share_across<T: Send + Sync>(value: T) -> T
     ensures { result ≡ value }
 {
     value
@@ -33,7 +33,7 @@ impl Told {
     pub fn for_other_threads(self) -> Told
         ensures { result ≡ self }
     {
-        shared(self)
+        share_across(self)
     }
 }
 

@@ -1,11 +1,11 @@
 -- The names and defaults of parameters, with one parameter more.
 use Rattle.std.proofs.Common.{◌≡◌, ◌++◌, ◌-◌, ◌<◌, ◌≤◌, ◌||◌, ℕ, suc, Bool, true, false, cond, List, [], ◌∷◌, length, map, drop, drop-cons, get_or, refl, ap, sym, ◌∙◌, arith}
 use Rattle.std.proofs.lemmas.List.{map-append}
-use Rattle.meaning.specs.Comparing.{same_text}
-use Rattle.grammar.specs.Targets.{is_bound, has_name, has_default}
-use Rattle.tree.specs.Tree.{Pa}
-use Rattle.tree.specs.Statements.{param_of}
-use Rattle.tree.specs.declared.def.Param.{Param}
+use Rattle.values_semantics.specs.Comparing.{same_text}
+use Rattle.syntax_grammar.specs.Targets.{is_bound, has_name, has_default}
+use Rattle.syntax_tree.specs.Tree.{Pa}
+use Rattle.syntax_tree.specs.Statements.{param_of}
+use Rattle.syntax_tree.specs.declared.def.Param.{Param}
 
 name_behind : (ps : List Pa) (p : Pa) (q : List ℕ) → has_name (ps ++ p ∷ []) q ≡ cond (same_text p.name q) true (has_name ps q)
 name_behind [] p q = none (same_text p.name q)

@@ -1,12 +1,12 @@
 -- What is parsed is what the grammar relates.
 use Rattle.std.proofs.Common.{ℕ, List, Result, Ok, Err}
-use Rattle.tokens.specs.declared.refusal.Refused.{Refused}
-use Rattle.tokens.specs.declared.refusal.Refused.TheVariants as r
-use Rattle.tree.specs.declared.def.File.{File}
-use Rattle.tree.specs.Statements.{file_of}
-use Rattle.grammar.specs.declared.kind.FileKind.{FileKind}
-use Rattle.grammar.specs.Files.{parse_of}
-use Rattle.grammar.proofs.Laws.{parse_tree, parse_refused}
+use Rattle.syntax_tokens.specs.declared.refusal.Refused.{Refused}
+use Rattle.syntax_tokens.specs.declared.refusal.Refused.TheVariants as r
+use Rattle.syntax_tree.specs.declared.def.File.{File}
+use Rattle.syntax_tree.specs.Statements.{file_of}
+use Rattle.syntax_grammar.specs.declared.kind.FileKind.{FileKind}
+use Rattle.syntax_grammar.specs.Files.{parse_of}
+use Rattle.syntax_grammar.proofs.Laws.{parse_tree, parse_refused}
 use Rattle.syntax.specs.Answers.{Gives, Parses}
 
 refused_by : (kind : FileKind) (bytes : List ℕ) (e : Refused) → Gives (parse_of kind bytes) (Err e) → Parses kind bytes (Err e)

@@ -1,4 +1,4 @@
--- A loop that counts its turns up, beside a recursion on the number of turns that are left.
+-- A loop that counts its iterations up, with a recursion on the number of iterations that are left.
 use Rattle.std.proofs.Common.{◌≡◌, ℕ, suc, ◌+◌, ◌-◌, ◌<◌, ◌≤◌, ap, ◌∙◌, arith}
 
 pub in_turn : {X : Type 0} {x : X} (f : ℕ → X) (all at : ℕ) → at < all → x ≡ f (all - at) → x ≡ f (suc (all - (at + 1)))

@@ -1,34 +1,34 @@
 //! Functions.
 ghost use Rattle.std.specs.Prelude.{map};
-ghost use Rattle.grammar.specs.Front.{and_then, gives, expect};
-ghost use Rattle.grammar.specs.Files as spec;
-ghost use Rattle.expressions.specs.View.{left, Reads};
-ghost use Rattle.tree.specs.Statements.{stmt_of, param_of, fn_of};
-ghost use Rattle.tokens.specs.declared.symbol.Symbol.TheVariants as s;
+ghost use Rattle.syntax_grammar.specs.Front.{and_then, gives, expect};
+ghost use Rattle.syntax_grammar.specs.Files as spec;
+ghost use Rattle.syntax_expressions.specs.View.{rest_of, Reads};
+ghost use Rattle.syntax_tree.specs.Statements.{stmt_of, param_of, fn_of};
+ghost use Rattle.syntax_tokens.specs.declared.symbol.Symbol.TheVariants as s;
 
 use crate::parameters::Parameters;
 use crate::statement::{LEVELS, Suites, stmt, test};
-use bindings::new_function;
-use expressions::{Stop, Tokens};
-use grammar::Within;
+use base_types::Text;
 use std::alloc::Global;
 use std::sync::Arc;
-use texts::Text;
-use tokens::Symbol;
-use tree::{Def, Param, Stmt};
+use syntax_bindings::new_function;
+use syntax_expressions::{ParseError, Tokens};
+use syntax_grammar::Within;
+use syntax_tokens::Symbol;
+use syntax_tree::{Def, Param, Stmt};
 
-/// Reads what stands behind the name of a parameter.
-#[tactic(auto, unfolding(grammar::specs::Files::param_rest))]
+/// Reads what is after the name of a parameter.
+#[tactic(auto, unfolding(syntax_grammar::specs::Files::param_rest))]
 fn param_rest(
     alloc: Global,
     t: &mut Tokens<'_, '_>,
     params: &Parameters,
     name: Text,
-) -> Result<Param, Stop>
-    ensures { Reads param_of (spec.param_rest (map param_of params.now) name (left t.old)) result
-        (left t.new) }
+) -> Result<Param, ParseError>
+    ensures { Reads param_of (spec.param_rest (map param_of params.now) name (rest_of t.old)) result
+        (rest_of t.new) }
 {
-    if t.eat(Symbol::Equal) {
+    if t.take_if(Symbol::Equal) {
         let value = test(alloc, t)?;
         let default = Arc::new(alloc, value)?;
         return Ok(Param {
@@ -37,7 +37,7 @@ fn param_rest(
         });
     }
     if params.has_default() {
-        return Err(Stop::Malformed);
+        return Err(ParseError::Malformed);
     }
     Ok(Param {
         name,
@@ -46,22 +46,23 @@ fn param_rest(
 }
 
 /// Reads a parameter.
-#[tactic(auto, unfolding(grammar::specs::Files::param))]
-fn param(alloc: Global, t: &mut Tokens<'_, '_>, params: &Parameters) -> Result<Param, Stop>
-    ensures { Reads param_of (spec.param (map param_of params.now) (left t.old)) result
-        (left t.new) }
+#[tactic(auto, unfolding(syntax_grammar::specs::Files::param))]
+fn param(alloc: Global, t: &mut Tokens<'_, '_>, params: &Parameters) -> Result<Param, ParseError>
+    ensures { Reads param_of (spec.param (map param_of params.now) (rest_of t.old)) result
+        (rest_of t.new) }
 {
     let name = t.take_name(alloc)?;
     if params.has_name(&name) {
-        return Err(Stop::Malformed);
+        return Err(ParseError::Malformed);
     }
     param_rest(alloc, t, params, name)
 }
 
 /// Reads parameters up to their closing bracket.
-#[tactic(auto, unfolding(grammar::specs::Files::params))]
-fn params(alloc: Global, t: &mut Tokens<'_, '_>) -> Result<Vec<Param>, Stop>
-    ensures { Reads (λ v. map param_of v.items) (spec.params (left t.old)) result (left t.new) }
+#[tactic(auto, unfolding(syntax_grammar::specs::Files::params))]
+fn params(alloc: Global, t: &mut Tokens<'_, '_>) -> Result<Vec<Param>, ParseError>
+    ensures { Reads (λ v. map param_of v.items) (spec.params (rest_of t.old)) result (rest_of
+        t.new) }
 {
     let mut found = Parameters::new(alloc);
     for _turn in 0..t.len() {
@@ -70,7 +71,7 @@ fn params(alloc: Global, t: &mut Tokens<'_, '_>) -> Result<Vec<Param>, Stop>
         }
         let next = param(alloc, t, &found)?;
         found = found.with(alloc, next)?;
-        if !t.eat(Symbol::Comma) {
+        if !t.take_if(Symbol::Comma) {
             return Ok(found.into_params());
         }
     }
@@ -78,9 +79,9 @@ fn params(alloc: Global, t: &mut Tokens<'_, '_>) -> Result<Vec<Param>, Stop>
 }
 
 /// Reads the suite of a function.
-#[tactic(auto, unfolding(grammar::specs::Files::body))]
-fn body(alloc: Global, t: &mut Tokens<'_, '_>) -> Result<Vec<Stmt>, Stop>
-    ensures { Reads (λ v. map stmt_of v.items) (spec.body (left t.old)) result (left t.new) }
+#[tactic(auto, unfolding(syntax_grammar::specs::Files::body))]
+fn body(alloc: Global, t: &mut Tokens<'_, '_>) -> Result<Vec<Stmt>, ParseError>
+    ensures { Reads (λ v. map stmt_of v.items) (spec.body (rest_of t.old)) result (rest_of t.new) }
 {
     let levels = Suites {
         alloc,
@@ -95,11 +96,11 @@ fn body(alloc: Global, t: &mut Tokens<'_, '_>) -> Result<Vec<Stmt>, Stop>
 }
 
 /// Reads parameters with both brackets.
-fn params_in_brackets(alloc: Global, t: &mut Tokens<'_, '_>) -> Result<Vec<Param>, Stop>
+fn params_in_brackets(alloc: Global, t: &mut Tokens<'_, '_>) -> Result<Vec<Param>, ParseError>
     ensures { Reads (λ v. map param_of v.items)
-        (and_then (expect s.LeftParen (left t.old))
+        (and_then (expect s.LeftParen (rest_of t.old))
         (λ _ us. and_then (spec.params us)
-        (λ ps vs. and_then (expect s.RightParen vs) (λ _. gives ps)))) result (left t.new) }
+        (λ ps vs. and_then (expect s.RightParen vs) (λ _. gives ps)))) result (rest_of t.new) }
 {
     t.expect(Symbol::LeftParen)?;
     let found = params(alloc, t)?;
@@ -108,18 +109,22 @@ fn params_in_brackets(alloc: Global, t: &mut Tokens<'_, '_>) -> Result<Vec<Param
 }
 
 /// Reads the suite of a function with its colon.
-fn body_behind(alloc: Global, t: &mut Tokens<'_, '_>) -> Result<Vec<Stmt>, Stop>
+fn body_behind(alloc: Global, t: &mut Tokens<'_, '_>) -> Result<Vec<Stmt>, ParseError>
     ensures { Reads (λ v. map stmt_of v.items)
-        (and_then (expect s.Colon (left t.old)) (λ _. spec.body)) result (left t.new) }
+        (and_then (expect s.Colon (rest_of t.old)) (λ _. spec.body)) result (rest_of t.new) }
 {
     t.expect(Symbol::Colon)?;
     body(alloc, t)
 }
 
-/// Reads a function behind its `def`.
-#[tactic(auto, unfolding(grammar::specs::Files::def_rest))]
-pub(crate) fn def_rest(alloc: Global, t: &mut Tokens<'_, '_>, line: usize) -> Result<Def, Stop>
-    ensures { Reads fn_of (spec.def_rest line (left t.old)) result (left t.new) }
+/// Reads a function after its `def`.
+#[tactic(auto, unfolding(syntax_grammar::specs::Files::def_rest))]
+pub(crate) fn def_rest(
+    alloc: Global,
+    t: &mut Tokens<'_, '_>,
+    line: usize,
+) -> Result<Def, ParseError>
+    ensures { Reads fn_of (spec.def_rest line (rest_of t.old)) result (rest_of t.new) }
 {
     let name = t.take_name(alloc)?;
     let params = params_in_brackets(alloc, t)?;

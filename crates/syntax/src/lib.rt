@@ -1,4 +1,4 @@
-//! The parser of source files. Layer: syntax, on base. Begin at `statement.rt` and `specs/Answers.antt`.
+//! The parser of source files. Begin at `statement.rt` and `specs/Answers.antt`.
 #![tactic(auto)]
 
 mod function;
@@ -6,7 +6,7 @@ mod load;
 mod parameters;
 mod statement;
 
-pub use grammar::FileKind;
 pub use statement::parse;
-pub use tokens::Refused;
-pub use tree::File;
+pub use syntax_grammar::FileKind;
+pub use syntax_tokens::Refused;
+pub use syntax_tree::File;

@@ -1,21 +1,21 @@
 //! Load statements.
 ghost use Rattle.std.specs.Prelude.{map};
-ghost use Rattle.grammar.specs.Front.{and_then, gives, expect};
-ghost use Rattle.grammar.specs.Files as spec;
-ghost use Rattle.expressions.specs.View.{left, Reads};
-ghost use Rattle.tree.specs.Statements.{item_of, load_of};
-ghost use Rattle.tokens.specs.declared.symbol.Symbol.TheVariants as s;
+ghost use Rattle.syntax_grammar.specs.Front.{and_then, gives, expect};
+ghost use Rattle.syntax_grammar.specs.Files as spec;
+ghost use Rattle.syntax_expressions.specs.View.{rest_of, Reads};
+ghost use Rattle.syntax_tree.specs.Statements.{item_of, load_of};
+ghost use Rattle.syntax_tokens.specs.declared.symbol.Symbol.TheVariants as s;
 
-use expressions::{Stop, Tokens};
+use base_types::Text;
 use std::alloc::Global;
-use texts::Text;
-use tokens::{Symbol, is_name, string_text};
-use tree::{LoadItem, LoadStmt};
+use syntax_expressions::{ParseError, Tokens};
+use syntax_tokens::{Symbol, is_name, string_text};
+use syntax_tree::{LoadItem, LoadStmt};
 
 /// Reads a string, as the text that it stands for.
-#[tactic(auto, unfolding(grammar::specs::Files::a_string))]
-fn a_string(alloc: Global, t: &mut Tokens<'_, '_>) -> Result<Text, Stop>
-    ensures { Reads (λ x. x) (spec.a_string (left t.old)) result (left t.new) }
+#[tactic(auto, unfolding(syntax_grammar::specs::Files::a_string))]
+fn a_string(alloc: Global, t: &mut Tokens<'_, '_>) -> Result<Text, ParseError>
+    ensures { Reads (λ x. x) (spec.a_string (rest_of t.old)) result (rest_of t.new) }
 {
     match t.text() {
         Some(written) => {
@@ -23,32 +23,32 @@ fn a_string(alloc: Global, t: &mut Tokens<'_, '_>) -> Result<Text, Stop>
             t.skip();
             Ok(text)
         }
-        None => Err(Stop::Malformed),
+        None => Err(ParseError::Malformed),
     }
 }
 
 /// Reads a string that is a name.
-#[tactic(auto, unfolding(grammar::specs::Files::a_name_string))]
-fn a_name_string(alloc: Global, t: &mut Tokens<'_, '_>) -> Result<Text, Stop>
-    ensures { Reads (λ x. x) (spec.a_name_string (left t.old)) result (left t.new) }
+#[tactic(auto, unfolding(syntax_grammar::specs::Files::a_name_string))]
+fn a_name_string(alloc: Global, t: &mut Tokens<'_, '_>) -> Result<Text, ParseError>
+    ensures { Reads (λ x. x) (spec.a_name_string (rest_of t.old)) result (rest_of t.new) }
 {
     match t.text() {
         Some(written) => {
             if !is_name(written) {
-                return Err(Stop::Malformed);
+                return Err(ParseError::Malformed);
             }
             let text = string_text(alloc, written)?;
             t.skip();
             Ok(text)
         }
-        None => Err(Stop::Malformed),
+        None => Err(ParseError::Malformed),
     }
 }
 
 /// Reads an item of a load.
-#[tactic(auto, unfolding(grammar::specs::Files::item))]
-fn item(alloc: Global, t: &mut Tokens<'_, '_>) -> Result<LoadItem, Stop>
-    ensures { Reads item_of (spec.item (left t.old)) result (left t.new) }
+#[tactic(auto, unfolding(syntax_grammar::specs::Files::item))]
+fn item(alloc: Global, t: &mut Tokens<'_, '_>) -> Result<LoadItem, ParseError>
+    ensures { Reads item_of (spec.item (rest_of t.old)) result (rest_of t.new) }
 {
     if t.text().is_some() {
         let exported = a_name_string(alloc, t)?;
@@ -62,15 +62,19 @@ fn item(alloc: Global, t: &mut Tokens<'_, '_>) -> Result<LoadItem, Stop>
 }
 
 /// Reads the rest of the items of a load.
-#[tactic(auto, unfolding(grammar::specs::Files::more_items))]
-fn more_items(alloc: Global, t: &mut Tokens<'_, '_>, first: LoadItem) -> Result<Vec<LoadItem>, Stop>
-    ensures { Reads (λ v. map item_of v.items) (spec.more_items (item_of first) (left t.old)) result
-        (left t.new) }
+#[tactic(auto, unfolding(syntax_grammar::specs::Files::more_items))]
+fn more_items(
+    alloc: Global,
+    t: &mut Tokens<'_, '_>,
+    first: LoadItem,
+) -> Result<Vec<LoadItem>, ParseError>
+    ensures { Reads (λ v. map item_of v.items) (spec.more_items (item_of first) (rest_of t.old))
+        result (rest_of t.new) }
 {
     let mut found = Vec::new(alloc);
     found.push(first)?;
     for _turn in 0..t.len() {
-        if !t.eat(Symbol::Comma) {
+        if !t.take_if(Symbol::Comma) {
             return Ok(found);
         }
         if t.is_at(Symbol::RightParen) {
@@ -82,14 +86,14 @@ fn more_items(alloc: Global, t: &mut Tokens<'_, '_>, first: LoadItem) -> Result<
     Ok(found)
 }
 
-/// Reads the items of a load behind its label, and the end of its line.
-fn items_behind(alloc: Global, t: &mut Tokens<'_, '_>) -> Result<Vec<LoadItem>, Stop>
+/// Reads the items of a load after its label, and the end of its line.
+fn items_behind(alloc: Global, t: &mut Tokens<'_, '_>) -> Result<Vec<LoadItem>, ParseError>
     ensures { Reads (λ v. map item_of v.items)
-        (and_then (expect s.Comma (left t.old))
+        (and_then (expect s.Comma (rest_of t.old))
         (λ _ us. and_then (spec.item us)
         (λ x vs. and_then (spec.more_items x vs)
         (λ xs ws. and_then (expect s.RightParen ws)
-        (λ _ zs. and_then (expect s.NewLine zs) (λ _. gives xs)))))) result (left t.new) }
+        (λ _ zs. and_then (expect s.NewLine zs) (λ _. gives xs)))))) result (rest_of t.new) }
 {
     t.expect(Symbol::Comma)?;
     let first = item(alloc, t)?;
@@ -99,10 +103,10 @@ fn items_behind(alloc: Global, t: &mut Tokens<'_, '_>) -> Result<Vec<LoadItem>, 
     Ok(found)
 }
 
-/// Reads a load statement behind its `load`.
-#[tactic(auto, unfolding(grammar::specs::Files::load_rest))]
-fn load_rest(alloc: Global, t: &mut Tokens<'_, '_>, line: usize) -> Result<LoadStmt, Stop>
-    ensures { Reads load_of (spec.load_rest line (left t.old)) result (left t.new) }
+/// Reads a load statement after its `load`.
+#[tactic(auto, unfolding(syntax_grammar::specs::Files::load_rest))]
+fn load_rest(alloc: Global, t: &mut Tokens<'_, '_>, line: usize) -> Result<LoadStmt, ParseError>
+    ensures { Reads load_of (spec.load_rest line (rest_of t.old)) result (rest_of t.new) }
 {
     t.expect(Symbol::LeftParen)?;
     let label = a_string(alloc, t)?;
@@ -111,14 +115,14 @@ fn load_rest(alloc: Global, t: &mut Tokens<'_, '_>, line: usize) -> Result<LoadS
 }
 
 /// Reads the load statements.
-#[tactic(auto, unfolding(grammar::specs::Files::loads))]
-pub(crate) fn loads(alloc: Global, t: &mut Tokens<'_, '_>) -> Result<Vec<LoadStmt>, Stop>
-    ensures { Reads (λ v. map load_of v.items) (spec.loads (left t.old)) result (left t.new) }
+#[tactic(auto, unfolding(syntax_grammar::specs::Files::loads))]
+pub(crate) fn loads(alloc: Global, t: &mut Tokens<'_, '_>) -> Result<Vec<LoadStmt>, ParseError>
+    ensures { Reads (λ v. map load_of v.items) (spec.loads (rest_of t.old)) result (rest_of t.new) }
 {
     let mut found = Vec::new(alloc);
     for _turn in 0..t.len() {
         let line = t.line();
-        if !t.eat(Symbol::Load) {
+        if !t.take_if(Symbol::Load) {
             return Ok(found);
         }
         let next = load_rest(alloc, t, line)?;

@@ -2,18 +2,18 @@
 ghost use Rattle.std.specs.Prelude.{◌≡◌, ◌++◌, ◌∷◌, [], ℕ, List, true, cond, IfOk, IfSome, map};
 ghost use Rattle.std.specs.Option.{ForSome};
 ghost use Rattle.std.specs.HashSet.{contains};
-ghost use Rattle.meaning.specs.Comparing.{same_text};
-ghost use Rattle.grammar.specs.Targets.{has_name, has_default};
-ghost use Rattle.tree.specs.Statements.{param_of};
+ghost use Rattle.values_semantics.specs.Comparing.{same_text};
+ghost use Rattle.syntax_grammar.specs.Targets.{has_name, has_default};
+ghost use Rattle.syntax_tree.specs.Statements.{param_of};
 ghost use Rattle.syntax.specs.ParameterNames.{Knows};
 
+use base_types::{Memory, Text};
 use std::alloc::Global;
 use std::collections::HashSet;
 use std::marker::Model;
-use texts::{Memory, Text};
-use tree::Param;
+use syntax_tree::Param;
 
-/// So many parameters are looked through; for more a set of their names is kept.
+/// The most parameters that are searched one by one; for more a set of their names is kept.
 const FEW: usize = 16;
 
 // The names of many parameters.
@@ -22,7 +22,7 @@ struct Names {
     set: HashSet<Text>,
 }
 
-/// Parameters, of which a name and a default are found without a search where they are many. A contract sees them.
+/// Parameters. Where they are many, a name and a default are found without a search. A contract sees them.
 #[derive(Drop)]
 pub(crate) struct Parameters {
     found: Vec<Param>,
@@ -33,11 +33,11 @@ pub(crate) struct Parameters {
 impl Model for Parameters {
     ghost use Rattle.std.specs.Prelude.{◌≡◌, List, map};
     ghost use Rattle.std.specs.Option.{ForSome};
-    ghost use Rattle.grammar.specs.Targets.{has_default};
+    ghost use Rattle.syntax_grammar.specs.Targets.{has_default};
     ghost use Rattle.std.specs.Coded.{coded_list};
-    ghost use Rattle.tree.specs.Statements.{param_of};
-    ghost use Rattle.tree.specs.declared.def.Param.{Param};
-    ghost use Rattle.tree.specs.contracts.def.Param as e;
+    ghost use Rattle.syntax_tree.specs.Statements.{param_of};
+    ghost use Rattle.syntax_tree.specs.declared.def.Param.{Param};
+    ghost use Rattle.syntax_tree.specs.contracts.def.Param as e;
     ghost use Rattle.syntax.specs.ParameterNames.{Knows};
 
     ghost Value = { List Param };
@@ -86,7 +86,7 @@ fn with_name(names: Names, name: &Text) -> Result<Names, Memory>
     Ok(Names { set })
 }
 
-// Returns the names of parameters with one more, once there are many.
+// Returns the names of parameters with one more, if there are many.
 fn noted(
     alloc: Global,
     names: Option<Names>,
@@ -111,7 +111,7 @@ fn noted(
 }
 
 impl Parameters {
-    /// Takes no parameters.
+    /// Makes parameters of which there are none.
     pub(crate) fn new(alloc: Global) -> Parameters
         ensures { result ≡ [] }
     {

@@ -1,9 +1,9 @@
 //! The operators between two values that are both evaluated.
-ghost use Rattle.meaning.specs.Binary.{binary, less};
-ghost use Rattle.heap.specs.View.{store_of, Says};
+ghost use Rattle.values_semantics.specs.Binary.{binary, less};
+ghost use Rattle.values_heap.specs.View.{store_of, Says};
 
-use heap::{Halt, Heap, Operator, Val};
-use operations::{add, compare, divide, equal, has, multiply, remainder, subtract};
+use values_heap::{Halt, Heap, Operator, Val};
+use values_operators::{add, compare, divide, equal, has, multiply, remainder, subtract};
 
 /// Evaluates `a < b`, or returns fault 5, 11 or 12.
 pub fn less(heap: &mut Heap, a: Val, b: Val) -> Result<bool, Halt>

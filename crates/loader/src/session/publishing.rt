@@ -1,32 +1,32 @@
-//! Requests whose packages are published for readers beside the loader.
+//! Requests whose packages are published for readers of other threads.
 ghost use Rattle.std.specs.Prelude.{◌≡◌, ◌≤◌, ◌⊎◌, None, IfOk, OnOk, OnErr, string_bytes};
-ghost use Rattle.open_nodes.specs.TurnCounts.{turns_of};
-ghost use Rattle.commands.specs.Commands.{load};
-ghost use Rattle.commands.specs.Refusals.{request_refusal};
-ghost use Rattle.commands.specs.View.{request_seen, texts_seen};
+ghost use Rattle.round_nodes.specs.TurnCounts.{turns_of};
+ghost use Rattle.loader_commands.specs.Commands.{load};
+ghost use Rattle.loader_commands.specs.Refusals.{request_refusal};
+ghost use Rattle.loader_commands.specs.View.{request_seen, texts_seen};
 ghost use Rattle.shelf.specs.Lists.{version_of};
 ghost use Rattle.shelf.specs.Shelves.{published_by, shown_by, shelf_of};
 ghost use Rattle.loader.specs.Answers as answers;
-ghost use Rattle.loader.specs.Effects.{Moves, StopsAfter, StopsRequest, request_effect, request_roots};
-ghost use Rattle.loader.specs.Sessions.{state_of, files_of, IsLawful};
+ghost use Rattle.loader.specs.Effects.{Performs, StopsAfter, StopsRequest, request_effect, request_roots};
+ghost use Rattle.loader.specs.Sessions.{state_of, files_of, IsConsistent};
 ghost use Rattle.loader.specs.Publishing.{AreEntries, Publishes, Shows, names_to_publish};
 
 use super::{Reply, Session};
-use crate::publishing::packages_told;
+use crate::publishing::packages_reply;
 use crate::request_answers::package_keys;
-use commands::{Request, refusal};
+use base_types::Text;
+use loader_commands::{Request, refusal};
 use round::Stop;
 use shelf::{Keeper, Told};
 use std::sync::Wait;
-use texts::Text;
 
 impl Session {
-    /// Answers a request as `request` does, and publishes the packages of a load that is not refused. There is one
+    /// Replies to a request as `request` does, and publishes the packages of a load that is not refused. There is one
     /// entry for each distinct name, all at the present version. Its text is the JSON of that package. Then it returns
     /// what readers may learn. Other requests publish nothing.
     ///
-    /// Returns `Budget` if the budget of turns is spent, and nothing is published. Returns `Memory` if an allocation
-    /// fails. Nothing is shown to readers then, and the publish may be taken up: a later one shows it.
+    /// Returns `Budget` if the budget of turns is spent; then nothing is published. Returns `Memory` if an allocation
+    /// fails. Then nothing is shown to readers, and the publish may be taken up: a later one shows it.
     pub fn request_published<R: Wait + Drop>(
         &mut self,
         request: &Request<'_>,
@@ -38,13 +38,13 @@ impl Session {
             (λ r. answers.Tells (answers.IsRequestAnswer (request_seen request.now)
             (files_of self.old)) (string_bytes r.0.text)) }
         ensures moves { IfOk result
-            (λ r. Moves (request_effect (request_seen request.now) (state_of self.old)) self.old
+            (λ r. Performs (request_effect (request_seen request.now) (state_of self.old)) self.old
             self.new r.0.runs.items) }
         ensures turns { IfOk result (λ r. turns_of r.0.runs.items ≤ budget) }
         ensures stopped { OnErr result (StopsRequest (request_seen request.now) self.old self.new) }
         ensures history { (self.new.began ≡ self.old.began) × (self.new.edits ≡ self.old.edits) }
         ensures version { self.new.graph.version ≡ self.old.graph.version }
-        ensures lawful { IsLawful self.new }
+        ensures lawful { IsConsistent self.new }
         ensures shelf { shelf_of keeper.new ≡ shelf_of keeper.old }
         ensures published { OnOk result (Publishes (files_of self.old) self.old.graph.version
             (names_to_publish (request_seen request.now)) (published_by keeper.old)
@@ -68,7 +68,7 @@ impl Session {
         Ok((reply, Some(told)))
     }
 
-    // Answers a load that is not refused, with the entries that it publishes.
+    // Replies to a load that is not refused, and returns the entries that it publishes too.
     fn load(&mut self, names: &[&str], budget: u64) -> Result<(Reply, Vec<(Text, Text)>), Stop>
         requires { request_refusal (load (texts_seen names.now)) ≡ None }
         ensures text { IfOk result
@@ -77,18 +77,18 @@ impl Session {
         ensures entries { IfOk result (λ r. AreEntries (files_of self.old) (texts_seen names.now)
             r.1.items) }
         ensures moves { IfOk result
-            (λ r. Moves (request_effect (load (texts_seen names.now)) (state_of self.old)) self.old
-            self.new r.0.runs.items) }
+            (λ r. Performs (request_effect (load (texts_seen names.now)) (state_of self.old))
+            self.old self.new r.0.runs.items) }
         ensures turns { IfOk result (λ r. turns_of r.0.runs.items ≤ budget) }
         ensures stopped { OnErr result
             (StopsAfter (request_roots (load (texts_seen names.now))) self.old self.new) }
         ensures history { (self.new.began ≡ self.old.began) × (self.new.edits ≡ self.old.edits) }
         ensures version { self.new.graph.version ≡ self.old.graph.version }
-        ensures lawful { IsLawful self.new }
+        ensures lawful { IsConsistent self.new }
     {
         let roots = package_keys(self.alloc, names)?;
         let runs = self.settle(roots.as_slice(), budget)?;
-        let told = packages_told(self.alloc, &self.graph, names)?;
+        let told = packages_reply(self.alloc, &self.graph, names)?;
         let reply = Reply {
             text: told.line,
             runs,

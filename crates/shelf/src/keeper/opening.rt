@@ -9,22 +9,22 @@ ghost use Rattle.shelf.specs.declared.keeper.opening.OpenError.TheVariants.{Rang
 
 use super::Keeper;
 use super::seating::{NoPlace, seat};
-use crate::history::Beginning;
+use crate::history::Prefix;
 use crate::reader::Reader;
-use crate::rule::{Begins, Publisher, Takes, Twice};
+use crate::rule::{BeginsWith, Publisher, SecondCopy, TakesUp};
 use crate::store::Store;
+use base_types::Memory;
 use std::alloc::{AllocError, Global};
 use std::sync::Wait;
-use texts::Memory;
 use thiserror::Error;
 
 /// Why there is no shelf.
 #[derive(Debug, Drop, Error)]
 pub enum OpenError {
-    /// Not 1 to 16 readers.
+    /// There are not 1 to 16 readers.
     #[error("not 1 to 16 readers")]
     Range,
-    /// A growth was refused.
+    /// An allocation failed.
     #[error("out of memory")]
     Memory(Memory),
     /// `left_right` had no place for a reader.
@@ -36,7 +36,7 @@ pub enum OpenError {
 pub struct Shelf;
 
 impl Shelf {
-    /// Opens a shelf with an empty list, with so many readers. Returns `Range` exactly if they are not 1 to 16, and
+    /// Opens a shelf with an empty list and this many readers. Returns `Range` exactly if there are not 1 to 16, and
     /// `Memory` if an allocation fails. Returns `NoPlace` if the kit's `left_right` had no place for a reader.
     pub fn open<R: Wait + Drop>(
         alloc: Global,
@@ -60,7 +60,7 @@ impl Shelf {
     }
 }
 
-// Returns whether a shelf may have so many readers.
+// Returns whether a shelf may have this many readers.
 fn is_number(readers: usize) -> bool
     ensures { result ≡ is_number_of_readers readers }
 {
@@ -68,13 +68,13 @@ fn is_number(readers: usize) -> bool
 }
 
 impl<R: Wait + Drop> Keeper<R> {
-    // Makes a keeper of an empty list, with room for so many readers.
+    // Makes a keeper of an empty list, with memory for this many readers.
     fn new(alloc: Global, rt: R, readers: usize) -> Result<Keeper<R>, Memory>
         requires { (0 < readers) × (readers ≤ 16) }
         ensures list { IfOk result (λ keeper. published_by keeper ≡ []) }
         ensures shown { IfOk result (λ keeper. shown_by keeper ≡ []) }
     {
-        let (end, list) = Beginning::new();
+        let (end, list) = Prefix::new();
         let first = Store::new(alloc, list.again());
         let second = Store::new(alloc, list.again());
         let writer = Publisher::new(alloc, first, second, readers)?;
@@ -100,14 +100,14 @@ impl<R: Wait + Drop> Keeper<R> {
         ensures reader { IfOk result (λ reader. reader.list ≡ self.old.list) }
     {
         let mut entrance = seat(&self.writer)?;
-        entrance.learn::<Takes>(self.writer.tell::<Twice>());
+        entrance.learn::<TakesUp>(self.writer.tell::<SecondCopy>());
         Ok(Reader {
             entrance,
             list: self.list.again(),
         })
     }
 
-    // Makes so many readers.
+    // Makes this many readers.
     fn readers(&mut self, alloc: Global, count: usize) -> Result<Vec<Reader>, OpenError>
         ensures list { self.new.list ≡ self.old.list }
         ensures shown { shown_by self.new ≡ shown_by self.old }
@@ -143,7 +143,7 @@ fn begin<R: Wait>(writer: Publisher, rt: &R) -> (Publisher, Result<(), AllocErro
         (drop writer.behind writer.log.items) }
     ensures all { OnOk result.1 (drop result.0.behind result.0.log.items ≡ []) }
 {
-    let (shown, published) = writer.publish_as::<Begins, R>(rt);
+    let (shown, published) = writer.publish_as::<BeginsWith, R>(rt);
     match published {
         Ok(()) => (shown, Ok(())),
         Err(error) => (shown, Err(error)),

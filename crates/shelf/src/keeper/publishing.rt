@@ -11,25 +11,25 @@ use crate::publish::Batch;
 use crate::reader::Told;
 use crate::rule::{Publisher, Publishes};
 use crate::store::Operation;
+use base_types::{Memory, Text};
 use core::mem::replace_with;
 use std::alloc::AllocError;
 use std::sync::Wait;
-use texts::{Memory, Text};
 
 const MOST: u64 = 1 << 62;
 
 impl<R: Wait + Drop> Keeper<R> {
-    /// Returns the version that was last published or taken up, 0 before any.
+    /// Returns the version that was last published or taken up, or 0 before any.
     pub fn version(&self) -> u64
         ensures { result ≡ version_of (published_by self.now) }
     {
         self.version
     }
 
-    /// Publishes all entries at once, at a version that is not below the last one. It waits for readers that are still
+    /// Publishes all entries together, at a version that is not below the last one. It waits for readers that are still
     /// reading the copy from before the last call. Returns `Memory` if an allocation fails; readers then find what they
-    /// found before. The list is as before, or has this publish at its end: it was taken up, and a later publish shows
-    /// it.
+    /// found before. In that case the list is as before, or has this publish at its end: it was taken up, and a later
+    /// publish shows it.
     pub fn publish(&mut self, version: u64, entries: Vec<(Text, Text)>) -> Result<Told, Memory>
         requires { version_of (published_by self.old) ≤ version }
         ensures shelf { shelf_of self.new ≡ shelf_of self.old }
@@ -49,7 +49,7 @@ impl<R: Wait + Drop> Keeper<R> {
             return Err(Memory::no_number_left(wanted as u128));
         }
         let batch = Batch { version, entries };
-        let list = self.list.and(&self.end, &batch)?;
+        let list = self.list.append(&self.end, &batch)?;
         self.list = list.again();
         self.version = version;
         self.waiting = Some(Operation { batch, list });

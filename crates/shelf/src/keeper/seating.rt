@@ -6,14 +6,15 @@ use crate::rule::{Entrance, Publisher};
 use std::alloc::AllocError;
 use thiserror::Error;
 
-/// `left_right` had no place for a reader. Nobody can make one at leisure: it has the refusal of the library.
+/// The error that `left_right` had no place for a reader. It cannot be made at will: it comes from an error of the
+/// library.
 #[derive(Debug, Drop, Error)]
 #[error("no place for a reader")]
 pub struct NoPlace {
     reason: AllocError,
 }
 
-/// Takes a place for one more reader, who knows of no shelf yet.
+/// Takes a place for one more reader, which knows of no shelf yet.
 pub(crate) fn seat(writer: &Publisher) -> Result<Entrance, NoPlace>
     ensures view { IfOk result (λ entrance. view entrance.place ≡ None) }
     ensures table { IfOk result

@@ -1,12 +1,12 @@
-//! What the keeper hands to `left_right`.
+//! What the keeper sends to `left_right`.
 ghost use Rattle.std.specs.Prelude.{◌≡◌, ◌++◌, None, OnOk, drop};
 ghost use Rattle.shelf.specs.CopyRule.{waits};
 
 use crate::rule::Publisher;
 use crate::store::Operation;
-use texts::Memory;
+use base_types::Memory;
 
-/// Hands to `left_right` what waits. Returns `Memory` where it has no room: the publish goes on waiting then.
+/// Sends to `left_right` what waits. Returns `Memory` if it has no room; the publish then waits further.
 pub(crate) fn send(writer: &mut Publisher, waiting: &mut Option<Operation>) -> Result<(), Memory>
     ensures desk { writer.new.desk ≡ writer.old.desk }
     ensures all { drop writer.new.behind writer.new.log.items ++ waits waiting.new

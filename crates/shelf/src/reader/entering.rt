@@ -6,8 +6,8 @@ ghost use Rattle.shelf.specs.CopyRule.{Meets};
 use crate::rule::{Entrance, Reads, Visit};
 use thiserror::Error;
 
-/// `left_right` refused the entry, as where the keeper is gone. Nobody can make one at leisure: it comes from that refusal,
-/// or from a copy that has fewer publishes than the reader knows of.
+/// The error that `left_right` refused the entry, for example because the keeper is gone. It cannot be made at will: it
+/// comes from that refusal, or from a copy that has fewer publishes than the reader knows of.
 #[derive(Debug, Drop, Error)]
 #[error("no read")]
 pub struct NoRead {
@@ -15,7 +15,7 @@ pub struct NoRead {
 }
 
 impl NoRead {
-    /// Says that the copy which `left_right` gave has so many publishes, and the reader knows of more.
+    /// Makes the error that the copy which `left_right` gave has this many publishes, and the reader knows of more.
     pub(crate) fn old_copy(publishes: u64, known: u64) -> NoRead
         requires { publishes < known }
     {
@@ -24,7 +24,7 @@ impl NoRead {
     }
 }
 
-/// Enters the copy that is shown. The reader comes back where `left_right` refuses the entry.
+/// Enters the copy that is shown. Returns the entrance if `left_right` refuses the entry.
 pub(crate) fn enter(entrance: Entrance) -> Result<Visit, (Entrance, NoRead)>
     ensures entered { IfOk result (λ visit. Meets (view entrance.place) visit.part.value
         visit.part.value (view visit.place)) }

@@ -8,17 +8,17 @@ ghost use Rattle.shelf.specs.Shelves.{known_to, shelf_read_by, told_in, shelf_to
 
 use super::entering::{NoRead, enter};
 use super::{Reader, Told};
-use crate::history::Beginning;
+use crate::history::Prefix;
 use crate::rule::Entrance;
 use crate::store::Store;
+use base_types::{Memory, Text};
 use core::mem::replace_with;
-use texts::{Memory, Text};
 use thiserror::Error;
 
 /// Why a read gives nothing.
 #[derive(Debug, Drop, Error)]
 pub enum ReadError {
-    /// A growth was refused.
+    /// An allocation failed.
     #[error("out of memory")]
     Memory(Memory),
     /// `left_right` refused the entry.
@@ -27,7 +27,8 @@ pub enum ReadError {
 }
 
 impl Reader {
-    /// Returns what the name has after a list that begins with all that this reader knows. From then on it knows that list.
+    /// Returns what the name has after a list that begins with all that this reader knows. From then on it knows that
+    /// list.
     pub fn read(&mut self, name: &Text) -> Result<Option<(u64, Text)>, ReadError>
         ensures shelf { shelf_read_by self.new ≡ shelf_read_by self.old }
         ensures later { IfOk result (λ _. IsPrefix (known_to self.old) (known_to self.new)) }
@@ -37,13 +38,14 @@ impl Reader {
         ensures err { OnErr result (known_to self.new ≡ known_to self.old) }
     {
         let least = self.list.len();
-        let (list, found) = replace_with(&mut self.entrance, (name, least), look)?;
-        let _one_list = self.list.longer(&list);
+        let (list, found) = replace_with(&mut self.entrance, (name, least), read_entry)?;
+        let _one_list = self.list.longest(&list);
         self.list = list;
         Ok(found)
     }
 
-    /// Takes in what the keeper told: what it told and what this reader knew begin one list, the longer of the two.
+    /// Learns a list that the keeper made known. Of that prefix and the one that this reader knew, the longer one is
+    /// known from then on.
     pub fn learn(&mut self, told: &Told)
         requires shelf { shelf_told_of told.now ≡ shelf_read_by self.old }
         ensures shelf { shelf_read_by self.new ≡ shelf_read_by self.old }
@@ -52,18 +54,15 @@ impl Reader {
         ensures one { (known_to self.new ≡ known_to self.old)
             ⊎ (known_to self.new ≡ told_in told.now) }
     {
-        self.list = self.list.longer(&told.list);
+        self.list = self.list.longest(&told.list);
     }
 }
 
-// Enters, and looks for a name in a list of at least so many publishes.
-fn look(
+// Enters, and looks up a name in a list of at least this many publishes.
+fn read_entry(
     entrance: Entrance,
     asked: (&Text, u64),
-) -> (
-    Entrance,
-    Result<(Beginning, Option<(u64, Text)>), ReadError>,
-)
+) -> (Entrance, Result<(Prefix, Option<(u64, Text)>), ReadError>)
     ensures view { view result.0.place ≡ view entrance.place }
     ensures list { IfOk result.1 (λ r. (t : BookId) → view entrance.place ≡ Some t
         → t ≡ book_id r.0.known.book) }
@@ -73,25 +72,25 @@ fn look(
     let (name, least) = asked;
     match enter(entrance) {
         Ok(reading) => {
-            let found = look_in(reading.get(), name, least);
+            let found = read_entry_in(reading.get(), name, least);
             (reading.leave(), found)
         }
         Err((entrance, refused)) => (entrance, Err(ReadError::NoRead(refused))),
     }
 }
 
-// Looks for a name in a copy of a list of at least so many publishes.
-fn look_in(
+// Looks up a name in a copy of a list of at least this many publishes.
+fn read_entry_in(
     store: &Store,
     name: &Text,
     least: u64,
-) -> Result<(Beginning, Option<(u64, Text)>), ReadError>
+) -> Result<(Prefix, Option<(u64, Text)>), ReadError>
     ensures list { IfOk result (λ r. r.0 ≡ store.now.list) }
     ensures entry { IfOk result (λ r. r.1 ≡ entry (publishes_of store.now.contents.log.items)
         name.now) }
     ensures long { IfOk result (λ r. least ≤ length store.now.list.known.log) }
 {
-    // The keeper tells of nothing that readers do not get.
+    // The keeper makes nothing known that readers do not get.
     let publishes = store.list.len();
     if publishes < least {
         return Err(ReadError::NoRead(NoRead::old_copy(publishes, least)));

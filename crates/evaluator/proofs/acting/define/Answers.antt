@@ -1,13 +1,13 @@
 use Rattle.std.proofs.Common.{◌≡◌, ℕ, List, Err, sym, subst, ap, ◌∙◌}
-use Rattle.heap.specs.View.{store_of}
-use Rattle.meaning.specs.Outcome as o
-use Rattle.meaning.specs.Heap.{makes, function}
-use Rattle.tree.specs.declared.def.Def.{Def}
-use Rattle.tree.specs.Statements.{fn_of}
-use Rattle.names.specs.View.{world_of, here_of}
-use Rattle.frames.specs.declared.frame.Control.{Control}
-use Rattle.frames.specs.Frames.{an_exit, Goes, on, exited, above, stack_does, machine_does, defined}
-use Rattle.language.specs.Statements.{goes_on}
+use Rattle.values_heap.specs.View.{store_of}
+use Rattle.values_semantics.specs.Outcome as o
+use Rattle.values_semantics.specs.Heap.{makes, function}
+use Rattle.syntax_tree.specs.declared.def.Def.{Def}
+use Rattle.syntax_tree.specs.Statements.{fn_of}
+use Rattle.evaluator_state.specs.View.{world_of, here_of}
+use Rattle.evaluator_frames.specs.declared.frame.Control.{Control}
+use Rattle.evaluator_frames.specs.Frames.{an_exit, Goes, on, exited, above, stack_does, machine_does, defined}
+use Rattle.evaluator_semantics.specs.Statements.{goes_on}
 use Rattle.evaluator.proofs.Definitions.{kept_stops, bound_stops, bound}
 use Rattle.evaluator.proofs.acting.define.Goals as goal
 

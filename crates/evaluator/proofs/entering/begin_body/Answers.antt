@@ -1,18 +1,18 @@
 use Rattle.std.proofs.Common.{◌≡◌, ◌-◌, ◌++◌, ◌∷◌, [], ℕ, suc, List, Vec, drop, map, arith, sym, ap, ◌∙◌}
 use Rattle.std.specs.declared.alloc.Global.{Global}
-use Rattle.grammar.specs.declared.kind.FileKind.TheVariants as k
-use Rattle.tree.specs.declared.stmt.Stmt.{Stmt}
-use Rattle.tree.specs.Statements.{fn_of, stmts_of}
-use Rattle.names.specs.declared.state.Block as state
-use Rattle.meaning.specs.declared.val.Val.{Val}
-use Rattle.language.specs.World.{World, Block, Here, ended, Runs, then_runs, with_blocks}
-use Rattle.language.specs.Statements.{suite}
-use Rattle.language.specs.Calls.{call, inside, function_block}
-use Rattle.names.specs.declared.state.Standing.{Standing}
-use Rattle.names.specs.View.{world_of, here_of, held}
-use Rattle.calls.specs.View.{running_of}
-use Rattle.frames.specs.declared.frame.Caller.{Caller}
-use Rattle.frames.specs.Frames.{Sig, given_by, on, valued, exited, above, stack_does}
+use Rattle.syntax_grammar.specs.declared.kind.FileKind.TheVariants as k
+use Rattle.syntax_tree.specs.declared.stmt.Stmt.{Stmt}
+use Rattle.syntax_tree.specs.Statements.{fn_of, stmts_of}
+use Rattle.evaluator_state.specs.declared.state.Block as state
+use Rattle.values_semantics.specs.declared.val.Val.{Val}
+use Rattle.evaluator_semantics.specs.World.{World, Block, Here, ended, Runs, then_runs, with_blocks}
+use Rattle.evaluator_semantics.specs.Statements.{suite}
+use Rattle.evaluator_semantics.specs.Calls.{call, inside, function_block}
+use Rattle.evaluator_state.specs.declared.state.Position.{Position}
+use Rattle.evaluator_state.specs.View.{world_of, here_of, block_view}
+use Rattle.evaluator_calls.specs.View.{running_of}
+use Rattle.evaluator_frames.specs.declared.frame.Caller.{Caller}
+use Rattle.evaluator_frames.specs.Frames.{Sig, given_by, on, valued, exited, above, stack_does}
 use Rattle.evaluator.specs.Machines.{here_in}
 use Rattle.evaluator.proofs.Calls.{body_above, body_goes, one_opened, same_body}
 use Rattle.evaluator.proofs.entering.begin_body.Goals as goal
@@ -40,20 +40,20 @@ returns-clause-goes c = λ env line parameters holds path.
     let place : within ≡ stands =
     ap (λ (p : List ℕ). here_of (record { label = c.args.label; path = p; kind = k.Bzl; line = c.args.def.now.line }) c.args.def.now.line ((c.args.label, f.name) ∷ running_of m.running.items)) (sym path)
     ∙ ap (λ (r : List (List ℕ × List ℕ)). here_of (record { label = c.args.label; path = c.args.path; kind = k.Bzl; line = c.args.def.now.line }) c.args.def.now.line r) (sym opened) in
-    let blocks : block ∷ [] ≡ map held c.replace-callers.new.dest.items =
+    let blocks : block ∷ [] ≡ map block_view c.replace-callers.new.dest.items =
     ap (λ (b : Block). b ∷ []) (sym holds)
-    ∙ ap (λ (l : List state.Block). map held (l ++ c.args.block ∷ [])) (sym c.new-blocks.ensures.items)
-    ∙ ap (λ (l : List state.Block). map held l) (sym c.in_ok-push.ensures.items)
-    ∙ ap (λ (v : Vec state.Block Global). map held v.items) (sym c.replace-callers.ensures.after) in
-    let u : World = record w { blocks = map held c.replace-callers.new.dest.items } in
+    ∙ ap (λ (l : List state.Block). map block_view (l ++ c.args.block ∷ [])) (sym c.new-blocks.ensures.items)
+    ∙ ap (λ (l : List state.Block). map block_view l) (sym c.in_ok-push.ensures.items)
+    ∙ ap (λ (v : Vec state.Block Global). map block_view v.items) (sym c.replace-callers.ensures.after) in
+    let u : World = record w { blocks = map block_view c.replace-callers.new.dest.items } in
     let world : with_blocks (block ∷ []) w ≡ u = ap (λ (bs : List Block). with_blocks bs w) blocks in
-    let ends : Vec state.Block Global → Here → Sig → Runs Sig = λ b below sig z. then_runs (ended (given_by sig) (with_blocks (map held b.items) z)) (stack_does env left below frames) in
-    let caller : Standing → List (List ℕ × List ℕ) → Here = λ at r. here_of at at.line (drop 1 r) in
-    let below : Caller → Sig → Runs Sig = λ d sig z. then_runs (ended (given_by sig) (with_blocks (map held d.blocks.items) z)) (stack_does env d.left (caller d.at stands.running) frames) in
+    let ends : Vec state.Block Global → Here → Sig → Runs Sig = λ b below sig z. then_runs (ended (given_by sig) (with_blocks (map block_view b.items) z)) (stack_does env left below frames) in
+    let caller : Position → List (List ℕ × List ℕ) → Here = λ at r. here_of at at.line (drop 1 r) in
+    let below : Caller → Sig → Runs Sig = λ d sig z. then_runs (ended (given_by sig) (with_blocks (map block_view d.blocks.items) z)) (stack_does env d.left (caller d.at stands.running) frames) in
     let above_frame : stack_does env n stands c.push-3.new.frames.items ≡ ends m.state.blocks here = c.in_ok-push-3.ensures.ok env n stands
     ∙ ap below c.in_ok-back.ensures.ok
     ∙ ap (λ (b : Vec state.Block Global). ends b (caller c.in_ok-caller.caller stands.running)) c.replace-callers.ensures.value
-    ∙ ap (λ (at : Standing). ends m.state.blocks (caller at stands.running)) c.in_ok-caller.ensures.ok
+    ∙ ap (λ (at : Position). ends m.state.blocks (caller at stands.running)) c.in_ok-caller.ensures.ok
     ∙ ap (λ (r : List (List ℕ × List ℕ)). ends m.state.blocks (caller m.at r)) opened in
     ap (λ (r : Runs Val). above env left here (valued r) frames w) (body_goes env left n f parameters within h succ)
     ∙ body_above e w.blocks (stack_does env left here frames)

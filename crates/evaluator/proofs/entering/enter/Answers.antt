@@ -1,17 +1,17 @@
 use Rattle.std.proofs.Common.{Option, Err, sym, ap, subst, ◌∙◌}
 use Rattle.std.specs.Arc.{arc_value}
-use Rattle.meaning.specs.declared.val.Val.{Val}
-use Rattle.meaning.specs.Heap.{Obj}
-use Rattle.tree.specs.declared.def.Def.{Def}
-use Rattle.tree.specs.Statements.{fn_of}
-use Rattle.language.specs.World.{Ends, then_runs, pure}
-use Rattle.language.specs.Arguments.{plain_part, named_part}
-use Rattle.language.specs.Expressions.{call_object}
-use Rattle.language.specs.Calls.{call}
-use Rattle.language.specs.Laws.{with_answers}
-use Rattle.names.specs.View.{world_of}
-use Rattle.frames.specs.declared.frame.Control.{Control}
-use Rattle.frames.specs.Frames.{a_value, Goes, on, stack_does}
+use Rattle.values_semantics.specs.declared.val.Val.{Val}
+use Rattle.values_semantics.specs.Heap.{Obj}
+use Rattle.syntax_tree.specs.declared.def.Def.{Def}
+use Rattle.syntax_tree.specs.Statements.{fn_of}
+use Rattle.evaluator_semantics.specs.World.{Ends, then_runs, pure}
+use Rattle.evaluator_semantics.specs.Arguments.{plain_part, named_part}
+use Rattle.evaluator_semantics.specs.Expressions.{call_object}
+use Rattle.evaluator_semantics.specs.Calls.{call}
+use Rattle.evaluator_semantics.specs.Laws.{with_answers}
+use Rattle.evaluator_state.specs.View.{world_of}
+use Rattle.evaluator_frames.specs.declared.frame.Control.{Control}
+use Rattle.evaluator_frames.specs.Frames.{a_value, Goes, on, stack_does}
 use Rattle.evaluator.specs.declared.machine.Environment.{Environment}
 use Rattle.evaluator.specs.Machines.{env_of, here_in, means}
 use Rattle.evaluator.specs.Finding.{IsFound, calls_on}
@@ -19,8 +19,8 @@ use Rattle.evaluator.specs.declared.finding.Callee.{Callee}
 use Rattle.evaluator.proofs.Calls.{no_call, needs_goes, found_calls}
 use Rattle.evaluator.proofs.entering.enter.Goals as goal
 
-pub returns-in-Err-need_names-clause-goes : goal.returns-in-Err-need_names-clause-goes
-returns-in-Err-need_names-clause-goes c = λ more knows.
+pub returns-in-Err-ensure_names-clause-goes : goal.returns-in-Err-ensure_names-clause-goes
+returns-in-Err-ensure_names-clause-goes c = λ more knows.
     let m = c.args.m.now in
     let e = env_of c.args.e.now in
     let env = with_answers more e in
@@ -35,9 +35,9 @@ returns-in-Err-need_names-clause-goes c = λ more knows.
     let k = λ (v : Val). pure (a_value v) in
     let j = stack_does env left here m.frames.items in
     let object = ap (λ (o : Option Obj). call_object (call env left) o xs ns h w) c.in-Ok.ensures in
-    let after = λ (control : Control). means env (record m { state = c.need_names.new.state }) control in
-    subst (λ (o : Ends Val). Goes h.site (then_runs (then_runs o k) j) (Err c.in-Err-need_names.halt) after) (sym object)
-    (needs_goes env left label name xs ns h w (world_of c.need_names.new.state) c.in-Err-need_names.halt k j after (c.in-Err-need_names.ensures.says env h (sym (c.as_slice.ensures.value ∙ ap (λ (g : Environment). g.loads.items) c.given.ensures))))
+    let after = λ (control : Control). means env (record m { state = c.ensure_names.new.state }) control in
+    subst (λ (o : Ends Val). Goes h.site (then_runs (then_runs o k) j) (Err c.in-Err-ensure_names.halt) after) (sym object)
+    (needs_goes env left label name xs ns h w (world_of c.ensure_names.new.state) c.in-Err-ensure_names.halt k j after (c.in-Err-ensure_names.ensures.says env h (sym (c.as_slice.ensures.value ∙ ap (λ (g : Environment). g.loads.items) c.given.ensures))))
 
 pub returns-in-None-clause-goes : goal.returns-in-None-clause-goes
 returns-in-None-clause-goes c = λ more knows.
@@ -55,7 +55,7 @@ returns-in-None-clause-goes c = λ more knows.
     let k = λ (v : Val). pure (a_value v) in
     let j = stack_does env left here m.frames.items in
     let object = ap (λ (o : Option Obj). call_object (call env left) o xs ns h w) c.in-Ok.ensures in
-    let u = world_of c.need_names.new.state in
+    let u = world_of c.ensure_names.new.state in
     let needs = c.in_default.ensures.says env h (sym (c.as_slice.ensures.value ∙ ap (λ (g : Environment). g.loads.items) c.given.ensures)) in
     let none = subst (λ (o : Option Callee). IsFound e label name o) c.in-None.is c.in_ok-found.ensures.ok in
     ap (λ (o : Ends Val). then_runs (then_runs o k) j) (object ∙ no_call env left label name xs ns h w u needs none)
@@ -76,7 +76,7 @@ returns-in-Some-clause-goes c = λ more knows.
     let k = λ (v : Val). pure (a_value v) in
     let j = stack_does env left here m.frames.items in
     let object = ap (λ (o : Option Obj). call_object (call env left) o xs ns h w) c.in-Ok.ensures in
-    let u = world_of c.need_names.new.state in
+    let u = world_of c.ensure_names.new.state in
     let needs = c.in_default.ensures.says env h (sym (c.as_slice.ensures.value ∙ ap (λ (g : Environment). g.loads.items) c.given.ensures)) in
     let found = c.in-Some.found in
     let is = subst (λ (o : Option Callee). IsFound e label name o) c.in-Some.is c.in_ok-found.ensures.ok in

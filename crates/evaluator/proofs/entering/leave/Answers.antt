@@ -1,11 +1,11 @@
 use Rattle.std.proofs.Common.{◌++◌, ◌∷◌, [], ℕ, List, drop, refl, sym, ap, ◌∙◌}
-use Rattle.language.specs.World.{World, Ends}
-use Rattle.names.specs.View.{world_of, here_of}
-use Rattle.calls.specs.View.{running_of}
-use Rattle.frames.specs.declared.frame.Caller.{Caller}
-use Rattle.frames.specs.declared.frame.Frame.TheVariants as f
-use Rattle.frames.specs.Frames.{Sig, sig_of, given_by, stack_does}
-use Rattle.frames.proofs.Bind.{stack_push}
+use Rattle.evaluator_semantics.specs.World.{World, Ends}
+use Rattle.evaluator_state.specs.View.{world_of, here_of}
+use Rattle.evaluator_calls.specs.View.{running_of}
+use Rattle.evaluator_frames.specs.declared.frame.Caller.{Caller}
+use Rattle.evaluator_frames.specs.declared.frame.Frame.TheVariants as f
+use Rattle.evaluator_frames.specs.Frames.{Sig, sig_of, given_by, stack_does}
+use Rattle.evaluator_frames.proofs.Bind.{stack_push}
 use Rattle.evaluator.specs.Machines.{here_in}
 use Rattle.evaluator.proofs.Calls.{one_closed}
 use Rattle.evaluator.proofs.entering.leave.Goals as goal

@@ -1,7 +1,7 @@
 use Rattle.std.proofs.Common.{map}
 use Rattle.std.specs.Arc.{arc_value}
-use Rattle.tree.specs.Statements.{top_of}
-use Rattle.language.specs.Environment.{defs}
+use Rattle.syntax_tree.specs.Statements.{top_of}
+use Rattle.evaluator_semantics.specs.Environment.{defs}
 use Rattle.evaluator.proofs.FunctionLookups.{found_def, no_def}
 use Rattle.evaluator.proofs.finding.own_function.Goals as goal
 

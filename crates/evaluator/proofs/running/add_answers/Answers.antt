@@ -1,7 +1,7 @@
 use Rattle.std.proofs.Common.{◌++◌, ap, sym, ◌∙◌, arith}
 use Rattle.std.proofs.lemmas.List.{append-nil}
-use Rattle.language.specs.Environment.{Answers}
-use Rattle.package_calls.specs.View.{answers_of}
+use Rattle.evaluator_semantics.specs.Environment.{Answers}
+use Rattle.evaluator_package_calls.specs.View.{answers_of}
 use Rattle.evaluator.proofs.Answering.{answers_over}
 use Rattle.evaluator.proofs.running.add_answers.Goals as goal
 

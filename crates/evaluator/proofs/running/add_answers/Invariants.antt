@@ -1,6 +1,6 @@
 use Rattle.std.proofs.Common.{◌≡◌, ◌++◌, drop, map}
 use Rattle.std.specs.Prelude.{zip}
-use Rattle.package_calls.specs.View.{answers_of}
+use Rattle.evaluator_package_calls.specs.View.{answers_of}
 use Rattle.evaluator.specs.Files.{shared_texts}
 use Rattle.evaluator.proofs.running.add_answers.Given as goal
 

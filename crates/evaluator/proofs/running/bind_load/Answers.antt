@@ -1,10 +1,10 @@
 use Rattle.std.proofs.Common.{List, map, sym, subst}
-use Rattle.tree.specs.declared.def.LoadItem.{LoadItem}
-use Rattle.tree.specs.Statements.{item_of}
-use Rattle.heap.specs.View.{store_of}
-use Rattle.language.specs.World.{World, Ends, at_line}
-use Rattle.language.specs.Files.{load_items}
-use Rattle.names.specs.View.{world_of, here_of, Ran}
+use Rattle.syntax_tree.specs.declared.def.LoadItem.{LoadItem}
+use Rattle.syntax_tree.specs.Statements.{item_of}
+use Rattle.values_heap.specs.View.{store_of}
+use Rattle.evaluator_semantics.specs.World.{World, Ends, at_line}
+use Rattle.evaluator_semantics.specs.Files.{load_items}
+use Rattle.evaluator_state.specs.View.{world_of, here_of, Ran}
 use Rattle.evaluator.proofs.FileStarts.{tick_goes, tick_stops}
 use Rattle.evaluator.proofs.running.bind_load.Goals as goal
 

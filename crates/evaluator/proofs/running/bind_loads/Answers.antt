@@ -1,9 +1,9 @@
 use Rattle.std.proofs.Common.{◌≡◌, map, Err, subst, ◌∙◌, arith}
-use Rattle.module_values.specs.Values.{Body}
-use Rattle.tree.specs.Statements.{load_of}
-use Rattle.language.specs.World.{ended, at_line}
-use Rattle.language.specs.Files.{loads}
-use Rattle.names.specs.View.{world_of, here_of, Ran}
+use Rattle.values_modules.specs.Values.{Body}
+use Rattle.syntax_tree.specs.Statements.{load_of}
+use Rattle.evaluator_semantics.specs.World.{ended, at_line}
+use Rattle.evaluator_semantics.specs.Files.{loads}
+use Rattle.evaluator_state.specs.View.{world_of, here_of, Ran}
 use Rattle.evaluator.specs.Files.{load_does}
 use Rattle.evaluator.proofs.FileStarts.{opened_stops, load_moves, load_fails, next_of}
 use Rattle.evaluator.proofs.running.bind_loads.Goals as goal

@@ -1,7 +1,7 @@
 use Rattle.std.proofs.Common.{◌≡◌, ℕ, List, drop, map}
-use Rattle.language.specs.Files.{loads}
-use Rattle.tree.specs.Statements.{load_of}
-use Rattle.names.specs.View.{here_of, world_of}
+use Rattle.evaluator_semantics.specs.Files.{loads}
+use Rattle.syntax_tree.specs.Statements.{load_of}
+use Rattle.evaluator_state.specs.View.{here_of, world_of}
 use Rattle.evaluator.proofs.running.bind_loads.Given as goal
 
 abbrev pub invariant-loop-i : goal.invariant-loop-i

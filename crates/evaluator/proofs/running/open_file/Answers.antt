@@ -1,11 +1,11 @@
 use Rattle.std.proofs.Common.{◌≡◌, ℕ, List, Option, map, Err, ap, sym, subst, ◌∙◌}
-use Rattle.heap.specs.View.{store_of}
-use Rattle.tree.specs.Statements.{load_of}
-use Rattle.tree.specs.declared.def.LoadStmt.{LoadStmt}
-use Rattle.names.specs.declared.state.State.{State}
-use Rattle.language.specs.World.{World, Ends, at_line, then_runs}
-use Rattle.language.specs.Files.{leading, loads}
-use Rattle.names.specs.View.{world_of, here_of, Ran}
+use Rattle.values_heap.specs.View.{store_of}
+use Rattle.syntax_tree.specs.Statements.{load_of}
+use Rattle.syntax_tree.specs.declared.def.LoadStmt.{LoadStmt}
+use Rattle.evaluator_state.specs.declared.state.State.{State}
+use Rattle.evaluator_semantics.specs.World.{World, Ends, at_line, then_runs}
+use Rattle.evaluator_semantics.specs.Files.{leading, loads}
+use Rattle.evaluator_state.specs.View.{world_of, here_of, Ran}
 use Rattle.evaluator.specs.Files.{Opened}
 use Rattle.evaluator.proofs.FileStarts.{tick_goes, tick_stops, opened_stops}
 use Rattle.evaluator.proofs.running.open_file.Goals.{in-Some+in_default-tick, in_default}

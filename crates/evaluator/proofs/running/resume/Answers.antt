@@ -1,7 +1,7 @@
 use Rattle.std.proofs.Common.{map, ap}
 use Rattle.std.specs.Prelude.{zip}
-use Rattle.language.specs.Environment.{Answers}
-use Rattle.language.specs.Laws.{with_answers}
+use Rattle.evaluator_semantics.specs.Environment.{Answers}
+use Rattle.evaluator_semantics.specs.Laws.{with_answers}
 use Rattle.evaluator.specs.Machines.{env_of}
 use Rattle.evaluator.specs.Files.{Stands, shared_texts}
 use Rattle.evaluator.proofs.FileEvaluation.{stands_on}

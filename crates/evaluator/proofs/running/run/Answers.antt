@@ -1,9 +1,9 @@
 use Rattle.std.proofs.Common.{List, [], refl, ap, ◌∙◌, Ok, Err}
-use Rattle.tree.specs.Statements.{file_of}
-use Rattle.calls.specs.declared.functions.Open.{Open}
-use Rattle.calls.specs.View.{running_of}
-use Rattle.names.specs.declared.state.Standing.{Standing}
-use Rattle.names.specs.View.{world_of, here_of}
+use Rattle.syntax_tree.specs.Statements.{file_of}
+use Rattle.evaluator_calls.specs.declared.functions.ActiveCall.{ActiveCall}
+use Rattle.evaluator_calls.specs.View.{running_of}
+use Rattle.evaluator_state.specs.declared.state.Position.{Position}
+use Rattle.evaluator_state.specs.View.{world_of, here_of}
 use Rattle.evaluator.specs.declared.machine.Machine.{Machine}
 use Rattle.evaluator.specs.Machines.{env_of}
 use Rattle.evaluator.proofs.Ending.{level_of}
@@ -26,5 +26,5 @@ go_on-requires c =
     let opened = opens_same e (file_of c.deref.result.now) c.as_slice-loads.result.now at (world_of c.in_ok-state.state) (Ok tt) u (ap file_of c.deref.ensures) c.as_slice-loads.ensures.value c.in_ok-at.ensures c.in_ok-state.ensures (c.in_default.ensures []) in
     let running = c.new-2.result in
     let m : Machine = record { state = c.open_file.new.state; frames = c.new.result; at = at; running = running; left = 64 } in
-    let here = ap (λ (s : Standing). here_of s s.line (running_of running.items)) c.in_ok-at.ensures ∙ ap (λ (l : List Open). here_of (level_of env) 0 (running_of l)) c.new-2.ensures.items in
+    let here = ap (λ (s : Position). here_of s s.line (running_of running.items)) c.in_ok-at.ensures ∙ ap (λ (l : List ActiveCall). here_of (level_of env) 0 (running_of l)) c.new-2.ensures.items in
     stands_first e m c.in_ok-file.file c.in_ok-file.ensures refl c.new.ensures.items here opened

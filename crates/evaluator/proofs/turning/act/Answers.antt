@@ -1,8 +1,8 @@
 use Rattle.std.proofs.Common.{sym, subst}
-use Rattle.names.specs.View.{world_of}
-use Rattle.calls.specs.View.{running_of}
-use Rattle.frames.specs.declared.frame.Control.{Control}
-use Rattle.frames.specs.Frames.{Goes, on, control_line, machine_does}
+use Rattle.evaluator_state.specs.View.{world_of}
+use Rattle.evaluator_calls.specs.View.{running_of}
+use Rattle.evaluator_frames.specs.declared.frame.Control.{Control}
+use Rattle.evaluator_frames.specs.Frames.{Goes, on, control_line, machine_does}
 use Rattle.evaluator.specs.Machines.{means, here_in}
 use Rattle.evaluator.proofs.TurnParts.{within, nothing_moves}
 use Rattle.evaluator.proofs.turning.act.Goals as goal

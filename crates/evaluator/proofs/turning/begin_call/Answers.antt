@@ -1,19 +1,19 @@
 use Rattle.std.proofs.Common.{◌≡◌, ℕ, List, Vec, Global, Err, sym, subst, ap, ◌∙◌, arith}
 use Rattle.std.specs.Arc.{arc_value}
-use Rattle.texts.specs.declared.text.Text.{Text}
-use Rattle.meaning.specs.declared.val.Val.{Val}
-use Rattle.meaning.specs.Heap.{at}
-use Rattle.language.specs.World.{Ends}
-use Rattle.language.specs.Arguments.{plain_part, named_part}
-use Rattle.language.specs.Expressions.{call_object}
-use Rattle.language.specs.Environment.{Env}
-use Rattle.language.specs.Calls.{call}
-use Rattle.language.specs.Laws.{with_answers}
-use Rattle.names.specs.declared.state.Standing.{Standing}
-use Rattle.names.specs.View.{world_of}
-use Rattle.frames.specs.declared.frame.Control.{Control}
-use Rattle.frames.specs.declared.frame.Control.TheVariants as controls
-use Rattle.frames.specs.Frames.{Sig, Goes, on, valued, above}
+use Rattle.base_types.specs.declared.text.Text.{Text}
+use Rattle.values_semantics.specs.declared.val.Val.{Val}
+use Rattle.values_semantics.specs.Heap.{at}
+use Rattle.evaluator_semantics.specs.World.{Ends}
+use Rattle.evaluator_semantics.specs.Arguments.{plain_part, named_part}
+use Rattle.evaluator_semantics.specs.Expressions.{call_object}
+use Rattle.evaluator_semantics.specs.Environment.{Env}
+use Rattle.evaluator_semantics.specs.Calls.{call}
+use Rattle.evaluator_semantics.specs.Laws.{with_answers}
+use Rattle.evaluator_state.specs.declared.state.Position.{Position}
+use Rattle.evaluator_state.specs.View.{world_of}
+use Rattle.evaluator_frames.specs.declared.frame.Control.{Control}
+use Rattle.evaluator_frames.specs.declared.frame.Control.TheVariants as controls
+use Rattle.evaluator_frames.specs.Frames.{Sig, Goes, on, valued, above}
 use Rattle.evaluator.specs.Machines.{env_of, means, here_in, Stops}
 use Rattle.evaluator.proofs.Calls.{goes_stop}
 use Rattle.evaluator.proofs.Turns.{leads_after}
@@ -47,7 +47,7 @@ returns c = record {
       let before = λ (env : Env). means env m (controls.Enter c.args.line c.args.place c.args.xs c.args.names) in
       let after = λ (env : Env) (next : Control). means env c.enter.new.m next in
       goes_stop c.args.e.now before m.at.path c.args.line c.in-Err.halt c.stop.result _ after
-      (subst (λ (at : Standing). Stops at.path c.args.line c.in-Err.halt c.stop.result) stands c.stop.ensures)
+      (subst (λ (at : Position). Stops at.path c.args.line c.in-Err.halt c.stop.result) stands c.stop.ensures)
       (λ more knows.
       let env = with_answers more (env_of c.args.e.now) in
       let here = here_in m in

@@ -1,11 +1,11 @@
 use Rattle.std.proofs.Common.{List, sym, ap, ◌∙◌}
 use Rattle.std.proofs.lemmas.List.{nil_from_length}
-use Rattle.language.specs.World.{World, Ends}
-use Rattle.language.specs.Laws.{with_answers}
-use Rattle.names.specs.View.{world_of}
-use Rattle.frames.specs.declared.frame.Frame.{Frame}
-use Rattle.frames.specs.Frames.{Sig, sig_of, stack_does}
-use Rattle.frames.proofs.Bind.{stack_empty}
+use Rattle.evaluator_semantics.specs.World.{World, Ends}
+use Rattle.evaluator_semantics.specs.Laws.{with_answers}
+use Rattle.evaluator_state.specs.View.{world_of}
+use Rattle.evaluator_frames.specs.declared.frame.Frame.{Frame}
+use Rattle.evaluator_frames.specs.Frames.{Sig, sig_of, stack_does}
+use Rattle.evaluator_frames.proofs.Bind.{stack_empty}
 use Rattle.evaluator.specs.Machines.{env_of, here_in}
 use Rattle.evaluator.proofs.turning.hand.Goals as goal
 

@@ -1,12 +1,12 @@
 use Rattle.std.proofs.Common.{◌≡◌, ◌++◌, ◌∷◌, [], ℕ, Err, sym, subst}
-use Rattle.language.specs.Environment.{Env}
-use Rattle.language.specs.Laws.{with_answers}
-use Rattle.names.specs.View.{world_of}
-use Rattle.calls.specs.View.{running_of}
-use Rattle.frames.specs.declared.frame.Control.{Control}
-use Rattle.frames.specs.declared.frame.Control.TheVariants as controls
-use Rattle.frames.specs.Frames.{Goes, frame_line, machine_does}
-use Rattle.frames.specs.Weight.{frames_weight}
+use Rattle.evaluator_semantics.specs.Environment.{Env}
+use Rattle.evaluator_semantics.specs.Laws.{with_answers}
+use Rattle.evaluator_state.specs.View.{world_of}
+use Rattle.evaluator_calls.specs.View.{running_of}
+use Rattle.evaluator_frames.specs.declared.frame.Control.{Control}
+use Rattle.evaluator_frames.specs.declared.frame.Control.TheVariants as controls
+use Rattle.evaluator_frames.specs.Frames.{Goes, frame_line, machine_does}
+use Rattle.evaluator_frames.specs.Weight.{frames_weight}
 use Rattle.evaluator.specs.declared.machine.Machine.{Machine}
 use Rattle.evaluator.specs.Machines.{env_of, here_in, means, site_at}
 use Rattle.evaluator.proofs.Calls.{goes_stop}

@@ -1,4 +1,4 @@
-use Rattle.language.specs.Environment.{Env}
+use Rattle.evaluator_semantics.specs.Environment.{Env}
 use Rattle.evaluator.specs.Machines.{means}
 use Rattle.evaluator.proofs.Turns.{leads_on, no_turn}
 use Rattle.evaluator.proofs.turning.stretch.Goals as goal

@@ -1,5 +1,5 @@
 use Rattle.std.proofs.Common.{◌≡◌, ◌+◌}
-use Rattle.frames.specs.Weight.{frames_weight, control_weight}
+use Rattle.evaluator_frames.specs.Weight.{frames_weight, control_weight}
 use Rattle.evaluator.specs.Machines.{Under, means}
 use Rattle.evaluator.proofs.turning.stretch.Given as goal
 

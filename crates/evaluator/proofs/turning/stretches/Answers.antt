@@ -1,4 +1,4 @@
-use Rattle.language.specs.Environment.{Env}
+use Rattle.evaluator_semantics.specs.Environment.{Env}
 use Rattle.evaluator.specs.Machines.{means}
 use Rattle.evaluator.proofs.Turns.{leads_on, none_left}
 use Rattle.evaluator.proofs.turning.stretches.Goals as goal

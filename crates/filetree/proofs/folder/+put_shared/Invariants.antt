@@ -4,8 +4,8 @@ use Rattle.filetree.proofs.folder.+put_shared.Given as goal
 abbrev pub decreases-put_shared : goal.decreases-put_shared
 decreases-put_shared l = 3 * length l.path.now + 1
 
-abbrev pub decreases-Folder::put_here : goal.decreases-Folder::put_here
-decreases-Folder::put_here l = 3 * length l.path.now
+abbrev pub decreases-Folder::put_file : goal.decreases-Folder::put_file
+decreases-Folder::put_file l = 3 * length l.path.now
 
-abbrev pub decreases-put_below : goal.decreases-put_below
-decreases-put_below l = 3 * length l.rest.now + 2
+abbrev pub decreases-put_in_folder : goal.decreases-put_in_folder
+decreases-put_in_folder l = 3 * length l.rest.now + 2

@@ -1,4 +1,4 @@
-use Rattle.grammar.proofs.Laws.{parse_tree, parse_refused}
+use Rattle.syntax_grammar.proofs.Laws.{parse_tree, parse_refused}
 use Rattle.functions.proofs.Parses.{tree_is, fault_is}
 use Rattle.functions.proofs.file_laws.texts_are_read_by_the_grammar.Goals as goal
 

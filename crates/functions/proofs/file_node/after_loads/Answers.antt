@@ -1,6 +1,6 @@
 use Rattle.std.proofs.Common.{◌≡◌, ◌-◌, Ok, length, take, drop, ◌∙◌, ap, sym}
 use Rattle.std.specs.Arc.{arc_value}
-use Rattle.tree.specs.Statements.{file_of}
+use Rattle.syntax_tree.specs.Statements.{file_of}
 use Rattle.keys.specs.Turns.{values}
 use Rattle.functions.specs.Once.{once}
 use Rattle.functions.specs.Sources.{all_modules, after_modules, after_loads}
@@ -20,4 +20,4 @@ returns-in-Ok c =
     (λ i. all_modules source.path (sym c.as_slice-2.ensures.value i) (sym c.as_slice-3.ensures.value i) (values answers)) ∙ (rw c.in-Ok.is at c.in_ok-loads.ensures) in
     let asked : group ≡ once keys = c.in_ok-group.ensures ∙ ap once c.as_slice.ensures.value in
     let on = after_loads_on source file keys group answers c.in-Ok.loads.items n asked (ap length c.as_slice-count.ensures.value) c.if-answers-count.false found in
-    carried_on (after_loads source file (Ok keys)) (values answers) (after_modules source file (Ok c.in-Ok.loads.items)) (values (take (length answers - n) (drop n answers))) on c.evaluated.result c.evaluated.ensures
+    carried_on (after_loads source file (Ok keys)) (values answers) (after_modules source file (Ok c.in-Ok.loads.items)) (values (take (length answers - n) (drop n answers))) on c.evaluate_file.result c.evaluate_file.ensures

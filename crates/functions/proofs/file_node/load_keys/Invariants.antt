@@ -1,5 +1,5 @@
 use Rattle.std.proofs.Common.{◌≡◌, drop, map}
-use Rattle.tree.specs.Statements.{load_of}
+use Rattle.syntax_tree.specs.Statements.{load_of}
 use Rattle.functions.specs.Results.{behind}
 use Rattle.functions.specs.Sources.{each_or_fault, load_key}
 use Rattle.functions.proofs.file_node.load_keys.Given as goal

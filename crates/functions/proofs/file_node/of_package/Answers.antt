@@ -1,7 +1,7 @@
 use Rattle.std.proofs.Common.{sym, ◌∙◌, ap}
 use Rattle.keys.specs.declared.value.Value.TheVariants as value
 use Rattle.keys.specs.declared.value.Fault.{Fault}
-use Rattle.evaluation.specs.Reply.{Done}
+use Rattle.engine_semantics.specs.Reply.{Done}
 use Rattle.functions.specs.Packages.{build_in}
 use Rattle.functions.proofs.FileTurns.{no_package}
 use Rattle.functions.proofs.file_node.of_package.Goals as goal

@@ -1,7 +1,7 @@
 use Rattle.std.proofs.Common.{◌≡◌, Err, ◌∙◌, ap, sym, subst}
 use Rattle.syntax.specs.Answers.{Parses}
-use Rattle.tree.specs.Statements.{file_of}
-use Rattle.grammar.specs.Files.{parse_of}
+use Rattle.syntax_tree.specs.Statements.{file_of}
+use Rattle.syntax_grammar.specs.Files.{parse_of}
 use Rattle.functions.specs.Sources.{fault_at}
 use Rattle.functions.proofs.Parses.{tree_is, fault_is}
 use Rattle.functions.proofs.file_node.read_tree.Goals as goal

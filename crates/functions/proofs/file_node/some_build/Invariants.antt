@@ -1,7 +1,7 @@
 use Rattle.std.proofs.Common.{◌≡◌, drop}
 use Rattle.std.specs.List.{list_any}
 use Rattle.keys.specs.Turns.{values}
-use Rattle.walks.specs.Globs.{has_build}
+use Rattle.functions_directories.specs.Globs.{has_build}
 use Rattle.functions.proofs.file_node.some_build.Given as goal
 
 abbrev pub invariant-loop-look : goal.invariant-loop-look

@@ -15,5 +15,5 @@ returns-in-Some c =
     let answers = c.args.answers.now in
     let table = table_of held.continuation in
     let holds : IsHeld held key (values answers) = rw c.into_inner-taken.ensures (rw c.in-Some.is at c.requires) in
-    carried_on (next key) (values answers) table (drop held.taken (values answers)) (held_on held key (values answers) holds) c.go_on.result
-    (subst (λ l. IfOk c.go_on.result (IsMade table l)) (sym (rest_values answers held.taken)) c.go_on.ensures)
+    carried_on (next key) (values answers) table (drop held.taken (values answers)) (held_on held key (values answers) holds) c.resume_node.result
+    (subst (λ l. IfOk c.resume_node.result (IsMade table l)) (sym (rest_values answers held.taken)) c.resume_node.ensures)

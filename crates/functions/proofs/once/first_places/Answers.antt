@@ -1,7 +1,7 @@
 use Rattle.std.proofs.Common.{◌∙◌, sym, subst, Some}
 use Rattle.std.specs.BTreeMap.{Updates}
 use Rattle.keys.specs.Keys.{key_cmp}
-use Rattle.walks.proofs.NamesInOrder.{drop_item}
+use Rattle.functions_directories.proofs.NamesInOrder.{drop_item}
 use Rattle.functions.proofs.PlaceSteps.{place_stays, place_set}
 use Rattle.functions.proofs.once.first_places.Goals as goal
 

@@ -1,6 +1,6 @@
 use Rattle.std.proofs.Common.{◌∙◌, ap, subst}
 use Rattle.std.specs.Io.KnownBytes.{Appends, Consumes}
-use Rattle.lines.specs.Devices.{EndsWithNothing}
+use Rattle.base_lines.specs.Devices.{EndsWithNothing}
 use Rattle.loader.proofs.Programs.{answers_part}
 use Rattle.loader.proofs.program.run_program.Goals as goal
 

@@ -1,7 +1,7 @@
 use Rattle.std.proofs.Common.{◌∙◌, ap, sym, Some, List}
 use Rattle.keys.specs.declared.key.Key.{Key}
-use Rattle.commands.specs.View.{request_seen}
-use Rattle.commands.specs.declared.command.Request.{Request}
+use Rattle.loader_commands.specs.View.{request_seen}
+use Rattle.loader_commands.specs.declared.command.Request.{Request}
 use Rattle.loader.specs.Effects.{package_roots, request_roots, later_roots}
 use Rattle.loader.proofs.Requests.{names_told}
 use Rattle.loader.proofs.request_answers.later_roots.Goals as goal

@@ -1,6 +1,6 @@
 use Rattle.std.proofs.Common.{◌≡◌, ◌++◌, drop, map}
 use Rattle.keys.specs.declared.key.Key.TheVariants as keys
-use Rattle.commands.specs.View.{texts_seen}
+use Rattle.loader_commands.specs.View.{texts_seen}
 use Rattle.loader.proofs.request_answers.package_keys.Given as goal
 
 abbrev pub invariant-loop-name : goal.invariant-loop-name

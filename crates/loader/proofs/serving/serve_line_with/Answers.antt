@@ -1,5 +1,5 @@
 use Rattle.std.proofs.Common.{arith, ◌≡◌, ◌∙◌, ap, sym, subst, ℕ, List, ◌++◌, length, false, not, ◌&&◌, take}
-use Rattle.open_nodes.specs.declared.run.Run.{Run}
+use Rattle.round_nodes.specs.declared.run.Run.{Run}
 use Rattle.loader.specs.Service.{Stopped, Between, After}
 use Rattle.loader.proofs.Steps.{stopped_before, stopped_within, served_at_end, after_line, on_err}
 use Rattle.std.specs.Prelude.{◌==◌}
@@ -37,10 +37,10 @@ returns-clause-ok g c = λ told held b.
     let no : (not c.in_ok-ended.ended && (length t.line == 0)) ≡ false = sym (c.is_end.ensures t.line t.keeps) ∙ c.if-is_end.false in
     let added = c.in_ok-back.ensures.answer t.line t.keeps in
     let a = added.3 in
-    subst (λ (xs : List Run). After c.args.budget c.in_ok-ended.ended told (g.R.Input.told c.next_line.new.input) held (g.W.Output.held c.write.new.self) c.next_line.new.pending c.answer_with.new.session xs) (sym added.1)
-    (after_line b c.in_ok-ended.ended t no (g.W.Output.held c.write.new.self) c.answer_with.new.session added.0 a.told.0 a.told.1
+    subst (λ (xs : List Run). After c.args.budget c.in_ok-ended.ended told (g.R.Input.told c.next_line.new.input) held (g.W.Output.held c.write.new.self) c.next_line.new.pending c.reply_to_line_with.new.session xs) (sym added.1)
+    (after_line b c.in_ok-ended.ended t no (g.W.Output.held c.write.new.self) c.reply_to_line_with.new.session added.0 a.told.0 a.told.1
     (c.in_ok-write.ensures.held ∙ ap (λ r. g.W.Output.held c.args.writer.now ++ r) (c.as_bytes.ensures.value ∙ a.told.2)) a.state
-    c.answer_with.ensures.lawful a.moves added.2)
+    c.reply_to_line_with.ensures.lawful a.moves added.2)
 
 pub returns-then-is_end-clause-ok : goal.returns-then-is_end-clause-ok
 returns-then-is_end-clause-ok g c = λ told held b.

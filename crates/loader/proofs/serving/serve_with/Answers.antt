@@ -1,5 +1,5 @@
 use Rattle.std.proofs.Common.{arith, ap, refl}
-use Rattle.open_nodes.specs.TurnCounts.{turns_of}
+use Rattle.round_nodes.specs.TurnCounts.{turns_of}
 use Rattle.loader.proofs.Steps.{stopped_at_start, stopped_since, between_at_start, on_err}
 use Rattle.loader.proofs.serving.serve_with.Goals as goal
 

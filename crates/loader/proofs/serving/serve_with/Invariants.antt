@@ -1,6 +1,6 @@
 use Rattle.std.proofs.Common.{◌≡◌, ◌+◌, ◌≤◌, length}
 use Rattle.board.specs.Rule.{total}
-use Rattle.open_nodes.specs.TurnCounts.{turns_of}
+use Rattle.round_nodes.specs.TurnCounts.{turns_of}
 use Rattle.loader.specs.Service.{Between}
 use Rattle.loader.proofs.serving.serve_with.Given as goal
 

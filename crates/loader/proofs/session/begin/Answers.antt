@@ -1,8 +1,8 @@
 use Rattle.std.proofs.Common.{◌∙◌, ap, sym, subst}
 use Rattle.std.specs.Prelude.{Option, option_map, option_and_then}
-use Rattle.commands.specs.Commands as commands
-use Rattle.commands.specs.View.{command_seen}
-use Rattle.commands.specs.declared.command.Command.{Command}
+use Rattle.loader_commands.specs.Commands as commands
+use Rattle.loader_commands.specs.View.{command_seen}
+use Rattle.loader_commands.specs.declared.command.Command.{Command}
 use Rattle.serde_json.specs.View.{view}
 use Rattle.serde_json.specs.declared.value.Value.{Value}
 use Rattle.loader.specs.LineAnswers.{Begins}

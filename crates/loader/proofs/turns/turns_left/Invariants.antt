@@ -1,5 +1,5 @@
 use Rattle.std.proofs.Common.{◌≡◌, ◌+◌, drop}
-use Rattle.open_nodes.specs.TurnCounts.{turns_of}
+use Rattle.round_nodes.specs.TurnCounts.{turns_of}
 use Rattle.loader.proofs.turns.turns_left.Given as goal
 
 abbrev pub invariant-loop-run : goal.invariant-loop-run

@@ -1,6 +1,6 @@
 use Rattle.std.proofs.Common.{List, Ok, Err, subst}
 use Rattle.std.specs.Prelude.{IfOk, IfErr}
-use Rattle.evaluation.specs.Reply.{Reply}
+use Rattle.engine_semantics.specs.Reply.{Reply}
 use Rattle.functions.specs.Next.{next}
 use Rattle.keys.specs.declared.key.Key.{Key}
 use Rattle.keys.specs.declared.value.Value.{Value}

@@ -1,12 +1,12 @@
 use Rattle.std.proofs.Common.{◌∙◌, List, sym, ap, subst}
 use Rattle.std.proofs.Math.Seq.{take_all}
 use Rattle.std.specs.Option.{IsSome, is_some}
-use Rattle.numbered.specs.Tables.{AreDistinct}
-use Rattle.numbered.proofs.Numbers.{number_iff}
+use Rattle.node_table.specs.Tables.{AreDistinct}
+use Rattle.node_table.proofs.Numbers.{number_iff}
 use Rattle.node.specs.declared.entry.Entry.{Entry}
 use Rattle.node.specs.Records.{Users, kept_at, items_of, numbers_of, users_in, users_of}
 use Rattle.node.specs.Batches.{HasCutAll}
-use Rattle.node.specs.Graphs.{seen}
+use Rattle.node.specs.Graphs.{records_of}
 use Rattle.node.specs.Writes.{groups_at}
 use Rattle.node.proofs.Batching.{cut_step}
 use Rattle.node.proofs.Joining.{is_in}
@@ -23,24 +23,24 @@ unwrap-user-requires c =
     let key = c.entry-item.result.key in
     let e = is_in c.args.entries.now c.loop-entry.entry-index c.entry-item.result c.entry-item.is c.loop-entry-test.true in
     let s = some_kept (keys_of old) (kept_at old key) (subst IsSome (sym (λ i. keeps_seen start old c.loop-entry.invariant.same i key)) (c.requires.there c.entry-item.result e)) in
-    numbered_key old key c.number_of.result c.number_of.ensures.number (ap is_some s.1)
+    numbered_key old key c.id_of.result c.id_of.ensures.number (ap is_some s.1)
 
-pub cut-requires-clause-within : goal.cut-requires-clause-within
-cut-requires-clause-within c =
+pub drop_edges-requires-clause-within : goal.drop_edges-requires-clause-within
+drop_edges-requires-clause-within c =
     let start = c.args.records.now in
     let old = c.loop-entry.records in
     let i = c.loop-entry.invariant in
     let user = c.unwrap-user.result in
     let key = c.entry-item.result.key in
     let keys = keeps_keys start old i.same in
-    let d : AreDistinct start = distinct_kept old start (sym keys) c.number_of.ensures.distinct in
-    let at_old = (number_iff old c.number_of.ensures.distinct key user).0 (sym c.number_of.ensures.number ∙ c.unwrap-user.ensures) in
+    let d : AreDistinct start = distinct_kept old start (sym keys) c.id_of.ensures.distinct in
+    let at_old = (number_iff old c.id_of.ensures.distinct key user).0 (sym c.id_of.ensures.number ∙ c.unwrap-user.ensures) in
     let at = sym (key_same start old keys user) ∙ at_old in
     let e = is_in c.args.entries.now c.loop-entry.entry-index c.entry-item.result c.entry-item.is c.loop-entry-test.true in
     key_within old user key at_old
 
-pub cut-requires-clause-members : goal.cut-requires-clause-members
-cut-requires-clause-members c = keeps_asks c.args.records.now c.loop-entry.records c.loop-entry.invariant.same c.requires.asks
+pub drop_edges-requires-clause-members : goal.drop_edges-requires-clause-members
+drop_edges-requires-clause-members c = keeps_asks c.args.records.now c.loop-entry.records c.loop-entry.invariant.same c.requires.asks
 
 pub loop-entry-preserved : goal.loop-entry-preserved
 loop-entry-preserved c =
@@ -50,17 +50,17 @@ loop-entry-preserved c =
     let user = c.unwrap-user.result in
     let key = c.entry-item.result.key in
     let keys = keeps_keys start old i.same in
-    let d : AreDistinct start = distinct_kept old start (sym keys) c.number_of.ensures.distinct in
-    let at_old = (number_iff old c.number_of.ensures.distinct key user).0 (sym c.number_of.ensures.number ∙ c.unwrap-user.ensures) in
+    let d : AreDistinct start = distinct_kept old start (sym keys) c.id_of.ensures.distinct in
+    let at_old = (number_iff old c.id_of.ensures.distinct key user).0 (sym c.id_of.ensures.number ∙ c.unwrap-user.ensures) in
     let at = sym (key_same start old keys user) ∙ at_old in
     let e = is_in c.args.entries.now c.loop-entry.entry-index c.entry-item.result c.entry-item.is c.loop-entry-test.true in
-    let new = c.cut.new.records in
-    let cut = c.cut.ensures.cut key at_old in
+    let new = c.drop_edges.new.records in
+    let cut = c.drop_edges.ensures.cut key at_old in
     record {
-      cut = cut_step (seen start) (users_of start) (users_in start (numbers_of old)) (users_in start (numbers_of new)) c.args.entries.now c.loop-entry.entry-index c.entry-item.result c.entry-item.is c.loop-entry-test.true
+      cut = cut_step (records_of start) (users_of start) (users_in start (numbers_of old)) (users_in start (numbers_of new)) c.args.entries.now c.loop-entry.entry-index c.entry-item.result c.entry-item.is c.loop-entry-test.true
           _ _ (ap items_of c.as_slice.ensures.value) (λ x. groups_at (keeps_seen start old i.same x key)) (keys_cut start d key user at (numbers_of old) (numbers_of new) _ _ cut) i.cut;
       fewer = λ j n m. i.fewer j n (cut.from j n m);
-      same = c.cut.ensures.same ∙ i.same;
+      same = c.drop_edges.ensures.same ∙ i.same;
     }
 
 pub returns-clause-cut : goal.returns-clause-cut
@@ -68,5 +68,5 @@ returns-clause-cut c =
     let start = c.args.records.now in
     let old = c.loop-entry.records in
     let i = c.loop-entry.invariant in
-    subst (λ (u : Users). HasCutAll (seen start) (users_of start) u c.args.entries.now) (sym (users_same start old (numbers_of old) (keeps_keys start old i.same)))
-    (subst (λ (es : List Entry). HasCutAll (seen start) (users_of start) (users_in start (numbers_of old)) es) (take_all c.loop-entry.entry-index c.args.entries.now c.loop-entry-test.false) i.cut)
+    subst (λ (u : Users). HasCutAll (records_of start) (users_of start) u c.args.entries.now) (sym (users_same start old (numbers_of old) (keeps_keys start old i.same)))
+    (subst (λ (es : List Entry). HasCutAll (records_of start) (users_of start) (users_in start (numbers_of old)) es) (take_all c.loop-entry.entry-index c.args.entries.now c.loop-entry-test.false) i.cut)

@@ -1,6 +1,6 @@
 use Rattle.std.proofs.Common.{◌∙◌, sym, ap, subst}
 use Rattle.std.proofs.Math.Seq.{take_all}
-use Rattle.numbered.specs.Flats.{HaveNumbers}
+use Rattle.node_table.specs.Flats.{HaveNumbers}
 use Rattle.node.specs.Records.{items_of}
 use Rattle.node.specs.Batches.{flats_in}
 use Rattle.node.proofs.Batching.{flats_more, one_have}

@@ -1,8 +1,8 @@
 use Rattle.std.proofs.Common.{◌∙◌, sym, ap, subst, ◌<◌, All, List, ℕ, length}
 use Rattle.std.specs.Option.{IsSome, is_some}
-use Rattle.evaluation.specs.Value.{IsMember, In}
-use Rattle.numbered.specs.Tables.{AreDistinct}
-use Rattle.numbered.proofs.Numbers.{number_iff}
+use Rattle.engine_semantics.specs.Value.{IsMember, In}
+use Rattle.node_table.specs.Tables.{AreDistinct}
+use Rattle.node_table.proofs.Numbers.{number_iff}
 use Rattle.node.specs.Records.{Users, kept_at, items_of, numbers_of, users_in, users_of}
 use Rattle.node.specs.Batches.{HasLinkedEntries, HasLinkedEach}
 use Rattle.node.specs.Writes.{groups_at}
@@ -11,7 +11,7 @@ use Rattle.node.proofs.Joining.{is_in}
 use Rattle.node.proofs.Numbering.{key_same, key_within, numbered_key}
 use Rattle.node.proofs.Relating.{distinct_kept, has_number, keys_linked_some, keys_linked_all, numbers_linked, numbers_same, users_same}
 use Rattle.std.specs.Map.{keys_of}
-use Rattle.numbered.specs.Flats.{members_in}
+use Rattle.node_table.specs.Flats.{members_in}
 use Rattle.node.proofs.Showing.{asked_below, asked_member, keeps_asks, keeps_keys, keeps_seen, some_kept}
 use Rattle.node.proofs.batch.link_all.Goals as goal
 
@@ -22,14 +22,14 @@ unwrap-user-requires c =
     let key = c.entry-item.result.key in
     let e = is_in c.args.entries.now c.loop-entry.entry-index c.entry-item.result c.entry-item.is c.loop-entry-test.true in
     let s = some_kept (keys_of old) (kept_at old key) (subst IsSome (sym (λ i. keeps_seen start old c.loop-entry.invariant.same i key)) (c.requires.there c.entry-item.result e)) in
-    numbered_key old key c.number_of.result c.number_of.ensures.number (ap is_some s.1)
+    numbered_key old key c.id_of.result c.id_of.ensures.number (ap is_some s.1)
 
 pub members_with-requires : goal.members_with-requires
 members_with-requires c =
     let old = c.loop-entry.records in
     let user = c.unwrap-user.result in
     let key = c.entry-item.result.key in
-    let at = (number_iff old c.number_of.ensures.distinct key user).0 (sym c.number_of.ensures.number ∙ c.unwrap-user.ensures) in
+    let at = (number_iff old c.id_of.ensures.distinct key user).0 (sym c.id_of.ensures.number ∙ c.unwrap-user.ensures) in
     subst (All (λ n. n < length old)) (sym (c.kept_members.ensures key at)) (asked_below old (keeps_asks c.args.records.now old c.loop-entry.invariant.same c.requires.asks) key)
 
 pub kept_members-requires-clause-within : goal.kept_members-requires-clause-within
@@ -37,10 +37,10 @@ kept_members-requires-clause-within c =
     let old = c.loop-entry.records in
     let user = c.unwrap-user.result in
     let key = c.entry-item.result.key in
-    key_within old user key ((number_iff old c.number_of.ensures.distinct key user).0 (sym c.number_of.ensures.number ∙ c.unwrap-user.ensures))
+    key_within old user key ((number_iff old c.id_of.ensures.distinct key user).0 (sym c.id_of.ensures.number ∙ c.unwrap-user.ensures))
 
 pub kept_members-requires-clause-distinct : goal.kept_members-requires-clause-distinct
-kept_members-requires-clause-distinct c = c.number_of.ensures.distinct
+kept_members-requires-clause-distinct c = c.id_of.ensures.distinct
 
 pub link_groups-requires-clause-linked : goal.link_groups-requires-clause-linked
 link_groups-requires-clause-linked c = λ j m.
@@ -50,8 +50,8 @@ link_groups-requires-clause-linked c = λ j m.
     let user = c.unwrap-user.result in
     let key = c.entry-item.result.key in
     let keys = keeps_keys start old i.same in
-    let d : AreDistinct start = distinct_kept old start (sym keys) c.number_of.ensures.distinct in
-    let at_old = (number_iff old c.number_of.ensures.distinct key user).0 (sym c.number_of.ensures.number ∙ c.unwrap-user.ensures) in
+    let d : AreDistinct start = distinct_kept old start (sym keys) c.id_of.ensures.distinct in
+    let at_old = (number_iff old c.id_of.ensures.distinct key user).0 (sym c.id_of.ensures.number ∙ c.unwrap-user.ensures) in
     let at = sym (key_same start old keys user) ∙ at_old in
     let e = is_in c.args.entries.now c.loop-entry.entry-index c.entry-item.result c.entry-item.is c.loop-entry-test.true in
     let asked = subst (IsMember j) (λ x. groups_at (keeps_seen start old i.same x key)) (asked_member old key j (subst (λ (ns : List ℕ). In j (members_in old ns)) (c.kept_members.ensures key at_old) ((c.in_ok-linked.ensures j).0 m))) in
@@ -65,8 +65,8 @@ link_groups-requires-clause-members c = λ j m.
     let user = c.unwrap-user.result in
     let key = c.entry-item.result.key in
     let keys = keeps_keys start old i.same in
-    let d : AreDistinct start = distinct_kept old start (sym keys) c.number_of.ensures.distinct in
-    let at_old = (number_iff old c.number_of.ensures.distinct key user).0 (sym c.number_of.ensures.number ∙ c.unwrap-user.ensures) in
+    let d : AreDistinct start = distinct_kept old start (sym keys) c.id_of.ensures.distinct in
+    let at_old = (number_iff old c.id_of.ensures.distinct key user).0 (sym c.id_of.ensures.number ∙ c.unwrap-user.ensures) in
     let at = sym (key_same start old keys user) ∙ at_old in
     let e = is_in c.args.entries.now c.loop-entry.entry-index c.entry-item.result c.entry-item.is c.loop-entry-test.true in
     subst IsSome (sym (λ x. keeps_seen start old i.same x j)) (c.requires.members c.entry-item.result e j (subst (IsMember j) (ap items_of c.as_slice.ensures.value) m))
@@ -93,8 +93,8 @@ returns-in_err-link_groups-clause-some c =
     let user = c.unwrap-user.result in
     let key = c.entry-item.result.key in
     let keys = keeps_keys start old i.same in
-    let d : AreDistinct start = distinct_kept old start (sym keys) c.number_of.ensures.distinct in
-    let at_old = (number_iff old c.number_of.ensures.distinct key user).0 (sym c.number_of.ensures.number ∙ c.unwrap-user.ensures) in
+    let d : AreDistinct start = distinct_kept old start (sym keys) c.id_of.ensures.distinct in
+    let at_old = (number_iff old c.id_of.ensures.distinct key user).0 (sym c.id_of.ensures.number ∙ c.unwrap-user.ensures) in
     let at = sym (key_same start old keys user) ∙ at_old in
     let e = is_in c.args.entries.now c.loop-entry.entry-index c.entry-item.result c.entry-item.is c.loop-entry-test.true in
     let new = c.link_groups.new.records in
@@ -111,8 +111,8 @@ returns-in_err-link_groups-clause-numbers c =
     let user = c.unwrap-user.result in
     let key = c.entry-item.result.key in
     let keys = keeps_keys start old i.same in
-    let d : AreDistinct start = distinct_kept old start (sym keys) c.number_of.ensures.distinct in
-    let at_old = (number_iff old c.number_of.ensures.distinct key user).0 (sym c.number_of.ensures.number ∙ c.unwrap-user.ensures) in
+    let d : AreDistinct start = distinct_kept old start (sym keys) c.id_of.ensures.distinct in
+    let at_old = (number_iff old c.id_of.ensures.distinct key user).0 (sym c.id_of.ensures.number ∙ c.unwrap-user.ensures) in
     let at = sym (key_same start old keys user) ∙ at_old in
     let e = is_in c.args.entries.now c.loop-entry.entry-index c.entry-item.result c.entry-item.is c.loop-entry-test.true in
     let new = c.link_groups.new.records in
@@ -130,8 +130,8 @@ loop-entry-preserved c =
     let user = c.unwrap-user.result in
     let key = c.entry-item.result.key in
     let keys = keeps_keys start old i.same in
-    let d : AreDistinct start = distinct_kept old start (sym keys) c.number_of.ensures.distinct in
-    let at_old = (number_iff old c.number_of.ensures.distinct key user).0 (sym c.number_of.ensures.number ∙ c.unwrap-user.ensures) in
+    let d : AreDistinct start = distinct_kept old start (sym keys) c.id_of.ensures.distinct in
+    let at_old = (number_iff old c.id_of.ensures.distinct key user).0 (sym c.id_of.ensures.number ∙ c.unwrap-user.ensures) in
     let at = sym (key_same start old keys user) ∙ at_old in
     let e = is_in c.args.entries.now c.loop-entry.entry-index c.entry-item.result c.entry-item.is c.loop-entry-test.true in
     let new = c.link_groups.new.records in

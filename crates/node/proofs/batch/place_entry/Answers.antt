@@ -4,7 +4,7 @@ use Rattle.std.specs.Map.{keys_of}
 use Rattle.std.specs.Option.{option_map}
 use Rattle.node.specs.Records.{AsksNumbers, kept_at, record_of}
 use Rattle.node.specs.Batches.{HasPlacedSome}
-use Rattle.node.specs.Graphs.{seen}
+use Rattle.node.specs.Graphs.{records_of}
 use Rattle.node.proofs.Rewriting.{some_there}
 use Rattle.node.proofs.Showing.{pushed_lists}
 use Rattle.node.proofs.Storing.{absent, present_at, placed_asks, placed_there, placed_others}
@@ -16,7 +16,7 @@ place-requires-clause-none c = absent _ c.contains_key.result c.contains_key.ens
 
 pub returns-then-contains_key-clause-there : goal.returns-then-contains_key-clause-there
 returns-then-contains_key-clause-there c =
-    let s = some_there (seen c.args.records.now c.args.entry.now.key) (present_at (keys_of c.args.records.now) _ c.contains_key.result c.contains_key.ensures.there c.if-contains_key.true) in
+    let s = some_there (records_of c.args.records.now c.args.entry.now.key) (present_at (keys_of c.args.records.now) _ c.contains_key.result c.contains_key.ensures.there c.if-contains_key.true) in
     inl (s.0, s.1, s.1)
 
 pub returns-clause-some : goal.returns-clause-some

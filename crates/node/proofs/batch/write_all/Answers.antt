@@ -1,7 +1,7 @@
 use Rattle.std.proofs.Common.{◌∙◌, refl, sym, subst, arith}
-use Rattle.evaluation.specs.Value.{In, first}
+use Rattle.engine_semantics.specs.Value.{In, first}
 use Rattle.node.specs.Records.{users_of}
-use Rattle.node.specs.Graphs.{seen}
+use Rattle.node.specs.Graphs.{records_of}
 use Rattle.node.proofs.Lists.{in_right, none_of}
 use Rattle.node.proofs.Batching.{flats_last, one_have, ready_flat, write_step}
 use Rattle.node.proofs.BatchResults.{writing_begun, writing_ended}
@@ -9,7 +9,7 @@ use Rattle.node.proofs.batch.write_all.Goals as goal
 
 pub loop-entry-init : goal.loop-entry-init
 loop-entry-init c = record {
-  writing = writing_begun (seen c.args.records.now) (users_of c.args.records.now) c.args.entries.items c.args.version c.requires.differ c.requires.ready;
+  writing = writing_begun (records_of c.args.records.now) (users_of c.args.records.now) c.args.entries.items c.args.version c.requires.differ c.requires.ready;
   fewer = λ j n i. i;
   keys = refl;
   asks = c.requires.asks;
@@ -40,7 +40,7 @@ loop-entry-preserved-in-Some-pop c =
     let entry = c.in-Some.entry in
     let last = flats_last start c.loop-entry.entries.items rest entry c.loop-entry.flats.items c.pop-in-Some.new.self.items c.in-Some-pop.flat c.in-Some.ensures.items i.flats c.in-Some-pop.ensures.items in
     record {
-      writing = write_step (seen c.args.records.now) (seen c.loop-entry.records) (seen c.write_entry.new.records) (users_of c.args.records.now) (users_of c.loop-entry.records)
+      writing = write_step (records_of c.args.records.now) (records_of c.loop-entry.records) (records_of c.write_entry.new.records) (users_of c.args.records.now) (users_of c.loop-entry.records)
           (users_of c.write_entry.new.records) c.args.entries.items c.loop-entry.entries.items rest entry
           c.args.version c.in-Some.ensures.items i.writing c.write_entry.ensures.sets c.write_entry.ensures.users c.requires.differ;
       fewer = λ j n u. i.fewer j n (c.write_entry.ensures.fewer j n u);
@@ -51,5 +51,5 @@ loop-entry-preserved-in-Some-pop c =
 
 pub returns-clause-written : goal.returns-clause-written
 returns-clause-written c =
-    writing_ended (seen c.args.records.now) (seen c.loop-entry.records) (users_of c.args.records.now) (users_of c.loop-entry.records) c.args.entries.items c.loop-entry.entries.items c.args.version
+    writing_ended (records_of c.args.records.now) (records_of c.loop-entry.records) (users_of c.args.records.now) (users_of c.loop-entry.records) c.args.entries.items c.loop-entry.entries.items c.args.version
     (none_of c.loop-entry.entries.items (let e = c.in_default.ensures.cases in let o = c.loop-entry.entries.ok.0 in omega arith)) c.loop-entry.invariant.writing

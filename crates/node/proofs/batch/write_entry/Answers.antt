@@ -2,12 +2,12 @@ use Rattle.std.proofs.Common.{◌<◌, ◌∙◌, All, length, map, refl, sym, a
 use Rattle.std.specs.List.{concat}
 use Rattle.std.specs.Map.{keys_of}
 use Rattle.std.specs.Option.{option_map, is_some}
-use Rattle.evaluation.specs.Value.{In, IsMember}
-use Rattle.numbered.specs.Flats.{members_in}
-use Rattle.numbered.proofs.Numbers.{number_iff}
+use Rattle.engine_semantics.specs.Value.{In, IsMember}
+use Rattle.node_table.specs.Flats.{members_in}
+use Rattle.node_table.proofs.Numbers.{number_iff}
 use Rattle.node.specs.Edges.{HasCut, HasUsers}
-use Rattle.node.specs.Graphs.{seen}
-use Rattle.node.specs.Records.{Users, UserLists, asked_of, kept_at, items_of, named, numbers_of, record_of, users_in, users_of}
+use Rattle.node.specs.Graphs.{records_of}
+use Rattle.node.specs.Records.{Users, UserLists, asked_of, kept_at, items_of, keys_at, numbers_of, record_of, users_in, users_of}
 use Rattle.node.specs.Writes.{groups_at}
 use Rattle.node.proofs.Batching.{written_users}
 use Rattle.node.proofs.Joining.{cut_fewer}
@@ -19,30 +19,30 @@ use Rattle.node.proofs.batch.write_entry.Goals as goal
 pub unwrap-user-requires : goal.unwrap-user-requires
 unwrap-user-requires c =
     let s = some_kept (keys_of c.args.records.now) (kept_at c.args.records.now c.args.entry.key) (ap is_some c.requires.ready.1.there) in
-    numbered_key c.args.records.now c.args.entry.key c.number_of.result c.number_of.ensures.number (ap is_some s.1)
+    numbered_key c.args.records.now c.args.entry.key c.id_of.result c.id_of.ensures.number (ap is_some s.1)
 
-pub cut_with-requires-clause-within : goal.cut_with-requires-clause-within
-cut_with-requires-clause-within c =
+pub drop_edges_to-requires-clause-within : goal.drop_edges_to-requires-clause-within
+drop_edges_to-requires-clause-within c =
     let start = c.args.records.now in
     let wrote = c.write-old.new.records in
     let user = c.unwrap-user.result in
     let key = c.args.entry.key in
-    let d = c.number_of.ensures.distinct in
-    let at = (number_iff start d key user).0 (sym c.number_of.ensures.number ∙ c.unwrap-user.ensures) in
+    let d = c.id_of.ensures.distinct in
+    let at = (number_iff start d key user).0 (sym c.id_of.ensures.number ∙ c.unwrap-user.ensures) in
     let s = some_kept (keys_of start) (kept_at start key) (ap is_some c.requires.ready.1.there) in
     let u = c.write-old.ensures.updates key s.0 at s.1 in
     let at_wrote = key_same start wrote u.keys user ∙ at in
     let flat = c.args.flat in
     key_within wrote user key at_wrote
 
-pub cut_with-requires-clause-numbers : goal.cut_with-requires-clause-numbers
-cut_with-requires-clause-numbers c =
+pub drop_edges_to-requires-clause-numbers : goal.drop_edges_to-requires-clause-numbers
+drop_edges_to-requires-clause-numbers c =
     let start = c.args.records.now in
     let wrote = c.write-old.new.records in
     let user = c.unwrap-user.result in
     let key = c.args.entry.key in
-    let d = c.number_of.ensures.distinct in
-    let at = (number_iff start d key user).0 (sym c.number_of.ensures.number ∙ c.unwrap-user.ensures) in
+    let d = c.id_of.ensures.distinct in
+    let at = (number_iff start d key user).0 (sym c.id_of.ensures.number ∙ c.unwrap-user.ensures) in
     let s = some_kept (keys_of start) (kept_at start key) (ap is_some c.requires.ready.1.there) in
     let u = c.write-old.ensures.updates key s.0 at s.1 in
     let at_wrote = key_same start wrote u.keys user ∙ at in
@@ -50,28 +50,28 @@ cut_with-requires-clause-numbers c =
     let numbers = c.members.ensures ∙ ap concat (c.write-old.ensures.groups key s.0 at s.1) ∙ ap asked_of (sym s.1) in
     subst (All (λ n. n < length wrote)) (sym numbers) (subst (λ l. All (λ n. n < l) (asked_of (kept_at start key))) (sym (same_length start wrote u.keys)) (asked_below start c.requires.asks key))
 
-pub cut_with-requires-clause-distinct : goal.cut_with-requires-clause-distinct
-cut_with-requires-clause-distinct c =
+pub drop_edges_to-requires-clause-distinct : goal.drop_edges_to-requires-clause-distinct
+drop_edges_to-requires-clause-distinct c =
     let start = c.args.records.now in
     let wrote = c.write-old.new.records in
     let user = c.unwrap-user.result in
     let key = c.args.entry.key in
-    let d = c.number_of.ensures.distinct in
-    let at = (number_iff start d key user).0 (sym c.number_of.ensures.number ∙ c.unwrap-user.ensures) in
+    let d = c.id_of.ensures.distinct in
+    let at = (number_iff start d key user).0 (sym c.id_of.ensures.number ∙ c.unwrap-user.ensures) in
     let s = some_kept (keys_of start) (kept_at start key) (ap is_some c.requires.ready.1.there) in
     let u = c.write-old.ensures.updates key s.0 at s.1 in
     let at_wrote = key_same start wrote u.keys user ∙ at in
     let flat = c.args.flat in
     distinct_kept start wrote u.keys d
 
-pub cut_with-requires-clause-members : goal.cut_with-requires-clause-members
-cut_with-requires-clause-members c =
+pub drop_edges_to-requires-clause-members : goal.drop_edges_to-requires-clause-members
+drop_edges_to-requires-clause-members c =
     let start = c.args.records.now in
     let wrote = c.write-old.new.records in
     let user = c.unwrap-user.result in
     let key = c.args.entry.key in
-    let d = c.number_of.ensures.distinct in
-    let at = (number_iff start d key user).0 (sym c.number_of.ensures.number ∙ c.unwrap-user.ensures) in
+    let d = c.id_of.ensures.distinct in
+    let at = (number_iff start d key user).0 (sym c.id_of.ensures.number ∙ c.unwrap-user.ensures) in
     let s = some_kept (keys_of start) (kept_at start key) (ap is_some c.requires.ready.1.there) in
     let u = c.write-old.ensures.updates key s.0 at s.1 in
     let at_wrote = key_same start wrote u.keys user ∙ at in
@@ -84,14 +84,14 @@ returns-clause-sets c =
     let wrote = c.write-old.new.records in
     let user = c.unwrap-user.result in
     let key = c.args.entry.key in
-    let d = c.number_of.ensures.distinct in
-    let at = (number_iff start d key user).0 (sym c.number_of.ensures.number ∙ c.unwrap-user.ensures) in
+    let d = c.id_of.ensures.distinct in
+    let at = (number_iff start d key user).0 (sym c.id_of.ensures.number ∙ c.unwrap-user.ensures) in
     let s = some_kept (keys_of start) (kept_at start key) (ap is_some c.requires.ready.1.there) in
     let u = c.write-old.ensures.updates key s.0 at s.1 in
     let at_wrote = key_same start wrote u.keys user ∙ at in
     let flat = c.args.flat in
-    let final = c.cut_with.new.records in
-    rewritten_sets start start wrote final key s.0 c.args.entry.value flat c.args.version refl s.1 u c.cut_with.ensures.same (items_of c.args.entry.groups.items) c.requires.members.groups
+    let final = c.drop_edges_to.new.records in
+    rewritten_sets start start wrote final key s.0 c.args.entry.value flat c.args.version refl s.1 u c.drop_edges_to.ensures.same (items_of c.args.entry.groups.items) c.requires.members.groups
 
 pub returns-clause-users : goal.returns-clause-users
 returns-clause-users c =
@@ -99,25 +99,25 @@ returns-clause-users c =
     let wrote = c.write-old.new.records in
     let user = c.unwrap-user.result in
     let key = c.args.entry.key in
-    let d = c.number_of.ensures.distinct in
-    let at = (number_iff start d key user).0 (sym c.number_of.ensures.number ∙ c.unwrap-user.ensures) in
+    let d = c.id_of.ensures.distinct in
+    let at = (number_iff start d key user).0 (sym c.id_of.ensures.number ∙ c.unwrap-user.ensures) in
     let s = some_kept (keys_of start) (kept_at start key) (ap is_some c.requires.ready.1.there) in
     let u = c.write-old.ensures.updates key s.0 at s.1 in
     let at_wrote = key_same start wrote u.keys user ∙ at in
     let flat = c.args.flat in
-    let final = c.cut_with.new.records in
+    let final = c.drop_edges_to.new.records in
     let t = c.requires.ready.1 in
     let numbers = c.members.ensures ∙ ap concat (c.write-old.ensures.groups key s.0 at s.1) ∙ ap asked_of (sym s.1) in
-    let olds = groups_at (seen start key) in
-    let news = groups_at (seen wrote key) in
+    let olds = groups_at (records_of start key) in
+    let news = groups_at (records_of wrote key) in
     let members_is = members_same start wrote u.keys c.members.result.now ∙ ap (members_in start) numbers in
     let cut = cut_fewer (numbers_of wrote) (numbers_of final) user (λ j. In j (members_in wrote c.members.result.now)) (λ j. IsMember j olds) (λ j. IsMember j news)
-    (λ j m. subst (In j) (sym members_is) (member_asked start key j m)) (c.cut_with.ensures.cut key at_wrote) in
-    let gone = subst (λ (l : UserLists). HasCut l (numbers_of final) user (λ j. IsMember j olds) (λ j. IsMember j news)) (rewritten_lists start start wrote final key s.0 c.args.entry.value flat c.args.version refl s.1 u c.cut_with.ensures.same) cut in
-    let end = rewritten_keys start start wrote final key s.0 c.args.entry.value flat c.args.version refl s.1 u c.cut_with.ensures.same in
-    let asks = ap (λ o. groups_at (option_map (record_of (keys_of wrote)) o)) u.there ∙ (λ i. map (named (u.keys i)) flat) ∙ c.requires.members.groups in
+    (λ j m. subst (In j) (sym members_is) (member_asked start key j m)) (c.drop_edges_to.ensures.cut key at_wrote) in
+    let gone = subst (λ (l : UserLists). HasCut l (numbers_of final) user (λ j. IsMember j olds) (λ j. IsMember j news)) (rewritten_lists start start wrote final key s.0 c.args.entry.value flat c.args.version refl s.1 u c.drop_edges_to.ensures.same) cut in
+    let end = rewritten_keys start start wrote final key s.0 c.args.entry.value flat c.args.version refl s.1 u c.drop_edges_to.ensures.same in
+    let asks = ap (λ o. groups_at (option_map (record_of (keys_of wrote)) o)) u.there ∙ (λ i. map (keys_at (u.keys i)) flat) ∙ c.requires.members.groups in
     subst (λ (v : Users). HasUsers (users_of start) v key (items_of c.args.entry.groups.items)) (sym (users_same start final (numbers_of final) end))
-    (written_users (seen start) (users_of start) (users_in start (numbers_of final)) c.args.entry c.requires.ready.0 t olds news (ap groups_at t.there) asks
+    (written_users (records_of start) (users_of start) (users_in start (numbers_of final)) c.args.entry c.requires.ready.0 t olds news (ap groups_at t.there) asks
     (keys_cut start d key user at (numbers_of start) (numbers_of final) _ _ gone))
 
 pub returns-clause-fewer : goal.returns-clause-fewer
@@ -126,22 +126,22 @@ returns-clause-fewer c =
     let wrote = c.write-old.new.records in
     let user = c.unwrap-user.result in
     let key = c.args.entry.key in
-    let d = c.number_of.ensures.distinct in
-    let at = (number_iff start d key user).0 (sym c.number_of.ensures.number ∙ c.unwrap-user.ensures) in
+    let d = c.id_of.ensures.distinct in
+    let at = (number_iff start d key user).0 (sym c.id_of.ensures.number ∙ c.unwrap-user.ensures) in
     let s = some_kept (keys_of start) (kept_at start key) (ap is_some c.requires.ready.1.there) in
     let u = c.write-old.ensures.updates key s.0 at s.1 in
     let at_wrote = key_same start wrote u.keys user ∙ at in
     let flat = c.args.flat in
-    let final = c.cut_with.new.records in
+    let final = c.drop_edges_to.new.records in
     let t = c.requires.ready.1 in
     let numbers = c.members.ensures ∙ ap concat (c.write-old.ensures.groups key s.0 at s.1) ∙ ap asked_of (sym s.1) in
-    let olds = groups_at (seen start key) in
-    let news = groups_at (seen wrote key) in
+    let olds = groups_at (records_of start key) in
+    let news = groups_at (records_of wrote key) in
     let members_is = members_same start wrote u.keys c.members.result.now ∙ ap (members_in start) numbers in
     let cut = cut_fewer (numbers_of wrote) (numbers_of final) user (λ j. In j (members_in wrote c.members.result.now)) (λ j. IsMember j olds) (λ j. IsMember j news)
-    (λ j m. subst (In j) (sym members_is) (member_asked start key j m)) (c.cut_with.ensures.cut key at_wrote) in
-    let gone = subst (λ (l : UserLists). HasCut l (numbers_of final) user (λ j. IsMember j olds) (λ j. IsMember j news)) (rewritten_lists start start wrote final key s.0 c.args.entry.value flat c.args.version refl s.1 u c.cut_with.ensures.same) cut in
-    let end = rewritten_keys start start wrote final key s.0 c.args.entry.value flat c.args.version refl s.1 u c.cut_with.ensures.same in
+    (λ j m. subst (In j) (sym members_is) (member_asked start key j m)) (c.drop_edges_to.ensures.cut key at_wrote) in
+    let gone = subst (λ (l : UserLists). HasCut l (numbers_of final) user (λ j. IsMember j olds) (λ j. IsMember j news)) (rewritten_lists start start wrote final key s.0 c.args.entry.value flat c.args.version refl s.1 u c.drop_edges_to.ensures.same) cut in
+    let end = rewritten_keys start start wrote final key s.0 c.args.entry.value flat c.args.version refl s.1 u c.drop_edges_to.ensures.same in
     gone.from
 
 pub returns-clause-keys : goal.returns-clause-keys
@@ -150,14 +150,14 @@ returns-clause-keys c =
     let wrote = c.write-old.new.records in
     let user = c.unwrap-user.result in
     let key = c.args.entry.key in
-    let d = c.number_of.ensures.distinct in
-    let at = (number_iff start d key user).0 (sym c.number_of.ensures.number ∙ c.unwrap-user.ensures) in
+    let d = c.id_of.ensures.distinct in
+    let at = (number_iff start d key user).0 (sym c.id_of.ensures.number ∙ c.unwrap-user.ensures) in
     let s = some_kept (keys_of start) (kept_at start key) (ap is_some c.requires.ready.1.there) in
     let u = c.write-old.ensures.updates key s.0 at s.1 in
     let at_wrote = key_same start wrote u.keys user ∙ at in
     let flat = c.args.flat in
-    let final = c.cut_with.new.records in
-    rewritten_keys start start wrote final key s.0 c.args.entry.value flat c.args.version refl s.1 u c.cut_with.ensures.same
+    let final = c.drop_edges_to.new.records in
+    rewritten_keys start start wrote final key s.0 c.args.entry.value flat c.args.version refl s.1 u c.drop_edges_to.ensures.same
 
 pub returns-clause-asks : goal.returns-clause-asks
 returns-clause-asks c =
@@ -165,11 +165,11 @@ returns-clause-asks c =
     let wrote = c.write-old.new.records in
     let user = c.unwrap-user.result in
     let key = c.args.entry.key in
-    let d = c.number_of.ensures.distinct in
-    let at = (number_iff start d key user).0 (sym c.number_of.ensures.number ∙ c.unwrap-user.ensures) in
+    let d = c.id_of.ensures.distinct in
+    let at = (number_iff start d key user).0 (sym c.id_of.ensures.number ∙ c.unwrap-user.ensures) in
     let s = some_kept (keys_of start) (kept_at start key) (ap is_some c.requires.ready.1.there) in
     let u = c.write-old.ensures.updates key s.0 at s.1 in
     let at_wrote = key_same start wrote u.keys user ∙ at in
     let flat = c.args.flat in
-    let final = c.cut_with.new.records in
-    rewritten_asks start start wrote final key s.0 c.args.entry.value flat c.args.version refl s.1 u c.cut_with.ensures.same c.requires.members.within c.requires.asks
+    let final = c.drop_edges_to.new.records in
+    rewritten_asks start start wrote final key s.0 c.args.entry.value flat c.args.version refl s.1 u c.drop_edges_to.ensures.same c.requires.members.within c.requires.asks

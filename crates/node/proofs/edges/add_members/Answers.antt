@@ -1,5 +1,5 @@
 use Rattle.std.proofs.Common.{◌∙◌, inl, inr, sym, subst}
-use Rattle.evaluation.specs.Value.{In}
+use Rattle.engine_semantics.specs.Value.{In}
 use Rattle.node.proofs.Joining.{is_in, in_taken, in_all}
 use Rattle.node.proofs.edges.add_members.Goals as goal
 

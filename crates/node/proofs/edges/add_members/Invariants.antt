@@ -1,5 +1,5 @@
 use Rattle.std.proofs.Common.{take, ◌⊎◌}
-use Rattle.evaluation.specs.Value.{In}
+use Rattle.engine_semantics.specs.Value.{In}
 use Rattle.keys.specs.declared.key.Key.{Key}
 use Rattle.node.proofs.edges.add_members.Given as goal
 

@@ -2,8 +2,8 @@ use Rattle.std.proofs.Common.{◌<◌, ◌∙◌, All, length, sym, ap, subst}
 use Rattle.std.specs.List.{list_any}
 use Rattle.std.specs.Map.{keys_of}
 use Rattle.keys.specs.Keys.{key_eq}
-use Rattle.numbered.specs.Flats.{members_in}
-use Rattle.numbered.proofs.Numbers.{value_by_number}
+use Rattle.node_table.specs.Flats.{members_in}
+use Rattle.node_table.proofs.Numbers.{value_by_number}
 use Rattle.node.specs.Edges.{among}
 use Rattle.node.proofs.Numbering.{among_named, concat_below, key_there}
 use Rattle.node.proofs.Showing.{groups_by_number}

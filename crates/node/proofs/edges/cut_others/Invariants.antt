@@ -1,6 +1,6 @@
 use Rattle.std.proofs.Common.{take}
-use Rattle.evaluation.specs.Value.{In}
-use Rattle.numbered.specs.Flats.{members_in}
+use Rattle.engine_semantics.specs.Value.{In}
+use Rattle.node_table.specs.Flats.{members_in}
 use Rattle.node.specs.Records.{KeepsRecords, numbers_of}
 use Rattle.node.specs.Edges.{HasCut}
 use Rattle.node.proofs.edges.cut_others.Given as goal

@@ -1,7 +1,7 @@
 use Rattle.std.proofs.Common.{◌≡◌, drop}
 use Rattle.std.specs.List.{list_any}
 use Rattle.keys.specs.Keys.{key_eq}
-use Rattle.numbered.specs.Flats.{members_in}
+use Rattle.node_table.specs.Flats.{members_in}
 use Rattle.node.proofs.edges.is_named.Given as goal
 
 -- it is the key of none of the numbers so far

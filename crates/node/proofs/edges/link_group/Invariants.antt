@@ -1,5 +1,5 @@
 use Rattle.std.proofs.Common.{take}
-use Rattle.evaluation.specs.Value.{In}
+use Rattle.engine_semantics.specs.Value.{In}
 use Rattle.node.specs.Records.{KeepsRecords, numbers_of}
 use Rattle.node.specs.Edges.{HasLinkedSome, HasLinkedAll}
 use Rattle.node.proofs.edges.link_group.Given as goal

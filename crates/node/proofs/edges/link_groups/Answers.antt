@@ -1,5 +1,5 @@
 use Rattle.std.proofs.Common.{◌∙◌, sym, subst}
-use Rattle.evaluation.specs.Value.{In}
+use Rattle.engine_semantics.specs.Value.{In}
 use Rattle.std.specs.Option.{IsSome}
 use Rattle.node.specs.Records.{numbers_of}
 use Rattle.node.proofs.Joining.{group_all, group_some, group_member}

@@ -1,5 +1,5 @@
 use Rattle.std.proofs.Common.{take}
-use Rattle.evaluation.specs.Value.{IsMember}
+use Rattle.engine_semantics.specs.Value.{IsMember}
 use Rattle.node.specs.Records.{KeepsRecords, items_of, numbers_of}
 use Rattle.node.specs.Edges.{HasLinkedSome, HasLinkedAll}
 use Rattle.node.proofs.edges.link_groups.Given as goal

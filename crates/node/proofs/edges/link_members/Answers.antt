@@ -1,8 +1,8 @@
 use Rattle.std.proofs.Common.{◌≡◌, ◌⊎◌, ◌∙◌, ◌+◌, ℕ, List, [], ◌∷◌, inl, inr, take, refl, sym, subst}
 use Rattle.std.proofs.Math.Seq.{take_all}
-use Rattle.evaluation.specs.Value.{In}
+use Rattle.engine_semantics.specs.Value.{In}
 use Rattle.keys.specs.declared.key.Key.{Key}
-use Rattle.numbered.specs.Flats.{members_in}
+use Rattle.node_table.specs.Flats.{members_in}
 use Rattle.node.specs.Records.{numbers_of}
 use Rattle.node.specs.Edges.{HasLinkedAll}
 use Rattle.node.proofs.Lists.{in_split, in_one}

@@ -1,5 +1,5 @@
 use Rattle.std.proofs.Common.{inl, inr, sym, subst}
-use Rattle.evaluation.specs.Value.{In}
+use Rattle.engine_semantics.specs.Value.{In}
 use Rattle.node.proofs.Joining.{group_member, member_taken, member_all}
 use Rattle.node.proofs.edges.members_of.Goals as goal
 

@@ -1,5 +1,5 @@
 use Rattle.std.proofs.Common.{take}
-use Rattle.evaluation.specs.Value.{In, IsMember}
+use Rattle.engine_semantics.specs.Value.{In, IsMember}
 use Rattle.keys.specs.declared.key.Key.{Key}
 use Rattle.node.specs.Records.{items_of}
 use Rattle.node.proofs.edges.members_of.Given as goal

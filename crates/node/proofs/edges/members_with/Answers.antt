@@ -1,7 +1,7 @@
 use Rattle.std.proofs.Common.{List, [], ◌∷◌, ℕ, take, refl, inl, inr, sym, subst, ◌∙◌}
 use Rattle.std.proofs.Math.Seq.{take_all}
-use Rattle.evaluation.specs.Value.{In, first}
-use Rattle.numbered.specs.Flats.{members_in}
+use Rattle.engine_semantics.specs.Value.{In, first}
+use Rattle.node_table.specs.Flats.{members_in}
 use Rattle.node.proofs.Lists.{in_left, in_right, in_split, in_one}
 use Rattle.node.proofs.Numbering.{taken_members}
 use Rattle.node.proofs.edges.members_with.Goals as goal

@@ -1,7 +1,7 @@
 use Rattle.std.proofs.Common.{take}
-use Rattle.evaluation.specs.Value.{In}
+use Rattle.engine_semantics.specs.Value.{In}
 use Rattle.keys.specs.declared.key.Key.{Key}
-use Rattle.numbered.specs.Flats.{members_in}
+use Rattle.node_table.specs.Flats.{members_in}
 use Rattle.node.proofs.edges.members_with.Given as goal
 
 abbrev pub invariant-loop-number : goal.invariant-loop-number

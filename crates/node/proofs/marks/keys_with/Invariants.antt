@@ -1,5 +1,5 @@
 use Rattle.std.proofs.Common.{◌≡◌, take}
-use Rattle.numbered.specs.Flats.{members_in}
+use Rattle.node_table.specs.Flats.{members_in}
 use Rattle.node.proofs.marks.keys_with.Given as goal
 
 abbrev pub invariant-loop-number : goal.invariant-loop-number

@@ -1,7 +1,7 @@
 use Rattle.std.proofs.Common.{◌≡◌, ◌∙◌, ◌+◌, sym, subst}
 use Rattle.indexmap.specs.IndexMap.{set_value_at}
-use Rattle.numbered.specs.Tables.{Writes}
-use Rattle.numbered.proofs.Numbers.{written, keys_written, value_by_number, sum_written}
+use Rattle.node_table.specs.Tables.{Writes}
+use Rattle.node_table.proofs.Numbers.{written, keys_written, value_by_number, sum_written}
 use Rattle.node.specs.Records.{cleans, cost}
 use Rattle.node.specs.declared.records.NodeRecord.{NodeRecord}
 use Rattle.node.proofs.Lists.{some_is}

@@ -1,5 +1,5 @@
 use Rattle.std.proofs.Common.{◌∙◌, ap, sym}
-use Rattle.numbered.proofs.Numbers.{value_by_number}
+use Rattle.node_table.proofs.Numbers.{value_by_number}
 use Rattle.node.specs.Records.{asked_of}
 use Rattle.node.proofs.settling.kept_members.Goals as goal
 

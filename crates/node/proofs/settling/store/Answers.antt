@@ -3,8 +3,8 @@ use Rattle.std.specs.Arc.{arc_value}
 use Rattle.std.specs.Map.{keys_of}
 use Rattle.std.specs.Option.{option_map, option_to_list}
 use Rattle.node.specs.Records.{Records, Users, kept_at, items_of, record_of, users_of}
-use Rattle.node.specs.Graphs.{seen, IsLinkedBy}
-use Rattle.node.specs.Writes.{stored, SameSets}
+use Rattle.node.specs.Graphs.{records_of, IsLinkedBy}
+use Rattle.node.specs.Writes.{settled_record, SameSets}
 use Rattle.node.proofs.Relating.{distinct_kept, front_linked, linked_again, linked_put, users_put}
 use Rattle.node.proofs.Showing.{popped_rows, pushed_lists}
 use Rattle.node.proofs.Storing.{ready_recorded, stored_again, stored_first, first_linked, placed_linked, placed_asks, placed_members, placed_there, placed_others, absent, present_at}
@@ -19,7 +19,7 @@ rewrite-requires-clause-members c =
     let key = c.args.key.now in
     let groups = items_of c.args.groups.items in
     let own = present_at (keys_of records) (kept_at records key) c.contains_key.result c.contains_key.ensures.there c.if-contains_key.true in
-    ready_recorded (seen records) key groups own c.requires.ready
+    ready_recorded (records_of records) key groups own c.requires.ready
 
 pub returns-then-contains_key-clause-linked : goal.returns-then-contains_key-clause-linked
 returns-then-contains_key-clause-linked c =
@@ -28,7 +28,7 @@ returns-then-contains_key-clause-linked c =
     let groups = items_of c.args.groups.items in
     let new = c.rewrite.new.records in
     record {
-      linked = stored_again (seen records) (seen new) key (arc_value c.args.value) groups c.args.version c.requires.ready (users_of records) (users_of new) c.in_ok-rewrite.ensures.users c.requires.linked.linked c.in_ok-rewrite.ensures.ok;
+      linked = stored_again (records_of records) (records_of new) key (arc_value c.args.value) groups c.args.version c.requires.ready (users_of records) (users_of new) c.in_ok-rewrite.ensures.users c.requires.linked.linked c.in_ok-rewrite.ensures.ok;
       numbers = c.rewrite.ensures.numbers;
       asks = c.rewrite.ensures.asks;
       ordered = distinct_kept records new c.rewrite.ensures.keys c.requires.linked.ordered;
@@ -75,7 +75,7 @@ rewrite-requires-2-clause-linked c =
     let asks = placed_asks records placed key p.0 (arc_value c.args.value) c.args.version p.1 none p.2 c.requires.linked.asks in
     let missing = ap (option_map (record_of (keys_of records))) none in
     linked_put records placed more p.1 lists c.requires.linked c.place.ensures.ordered asks
-    (placed_linked (seen records) (seen placed) (users_of records) key (stored None (arc_value c.args.value) [] c.args.version) there others refl missing c.requires.linked.linked)
+    (placed_linked (records_of records) (records_of placed) (users_of records) key (settled_record None (arc_value c.args.value) [] c.args.version) there others refl missing c.requires.linked.linked)
 
 pub rewrite-requires-2-clause-members : goal.rewrite-requires-2-clause-members
 rewrite-requires-2-clause-members c =
@@ -91,7 +91,7 @@ rewrite-requires-2-clause-members c =
     let others = placed_others records placed key p.0 (arc_value c.args.value) c.args.version p.1 none p.2 c.requires.linked.asks in
     let asks = placed_asks records placed key p.0 (arc_value c.args.value) c.args.version p.1 none p.2 c.requires.linked.asks in
     let missing = ap (option_map (record_of (keys_of records))) none in
-    placed_members (seen records) (seen placed) key groups (ap is_some there) others c.requires.ready
+    placed_members (records_of records) (records_of placed) key groups (ap is_some there) others c.requires.ready
 
 pub returns-in-Ok-clause-ok : goal.returns-in-Ok-clause-ok
 returns-in-Ok-clause-ok c =
@@ -107,7 +107,7 @@ returns-in-Ok-clause-ok c =
     let others = placed_others records placed key p.0 (arc_value c.args.value) c.args.version p.1 none p.2 c.requires.linked.asks in
     let asks = placed_asks records placed key p.0 (arc_value c.args.value) c.args.version p.1 none p.2 c.requires.linked.asks in
     let missing = ap (option_map (record_of (keys_of records))) none in
-    stored_first (seen records) (seen c.rewrite-2.new.records) key (arc_value c.args.value) groups c.args.version c.requires.ready (seen placed) there others missing c.in-Ok.ensures.ok
+    stored_first (records_of records) (records_of c.rewrite-2.new.records) key (arc_value c.args.value) groups c.args.version c.requires.ready (records_of placed) there others missing c.in-Ok.ensures.ok
 
 pub returns-in-Ok-clause-linked : goal.returns-in-Ok-clause-linked
 returns-in-Ok-clause-linked c =
@@ -125,9 +125,9 @@ returns-in-Ok-clause-linked c =
     let missing = ap (option_map (record_of (keys_of records))) none in
     let new = c.rewrite-2.new.records in
     let linked = linked_put records placed more p.1 lists c.requires.linked c.place.ensures.ordered asks
-    (placed_linked (seen records) (seen placed) (users_of records) key (stored None (arc_value c.args.value) [] c.args.version) there others refl missing c.requires.linked.linked) in
+    (placed_linked (records_of records) (records_of placed) (users_of records) key (settled_record None (arc_value c.args.value) [] c.args.version) there others refl missing c.requires.linked.linked) in
     record {
-      linked = first_linked (seen records) (seen new) key (arc_value c.args.value) groups c.args.version c.requires.ready (seen placed) there others missing c.in-Ok.ensures.ok (users_of placed) (users_of new) c.in-Ok.ensures.users linked.linked;
+      linked = first_linked (records_of records) (records_of new) key (arc_value c.args.value) groups c.args.version c.requires.ready (records_of placed) there others missing c.in-Ok.ensures.ok (users_of placed) (users_of new) c.in-Ok.ensures.users linked.linked;
       numbers = c.in-Ok.ensures.numbers;
       asks = c.in-Ok.ensures.asks;
       ordered = distinct_kept placed new c.in-Ok.ensures.keys c.place.ensures.ordered;

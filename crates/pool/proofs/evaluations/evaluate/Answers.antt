@@ -4,7 +4,7 @@ use Rattle.board.proofs.Moves.{total_snoc}
 use Rattle.keys.specs.declared.key.Key.{Key}
 use Rattle.keys.specs.Leaves as leaves
 use Rattle.node.proofs.Lists.{on_err}
-use Rattle.open_nodes.specs.Truths.{IsNext}
+use Rattle.round_nodes.specs.Invariants.{IsNext}
 use Rattle.round.specs.Call.{Calls, HasOpenRoot, HasTurnToMake}
 use Rattle.round.specs.Since.{IsTrueSinceSome}
 use Rattle.pool.proofs.Ends.{if_ok, if_err, moved}
@@ -18,44 +18,44 @@ returns-in_err-first-clause-stopped g c =
     (λ laws past h. ([], c.in_ok-round.ensures.truth g.R.Rules.next laws past h)) in
     on_err c.from_residual-in_err-first.result (λ past h. c.in_err-first.ensures.stopped c.args.roots.now c.args.graph.now opened laws past h)
 
-pub by_workers-requires-clause-truth : goal.by_workers-requires-clause-truth
-by_workers-requires-clause-truth g c κs within =
+pub evaluate_with_workers-requires-clause-truth : goal.evaluate_with_workers-requires-clause-truth
+evaluate_with_workers-requires-clause-truth g c κs within =
     moved (λ rs entry. IsTrueSinceSome g.R.Rules.next (leaves.read c.args.tree.now) rs entry c.make_first_turns.new.graph c.make_first_turns.new.round.table)
     c.make_first_turns.new.round.roots.items c.in_ok-shared.shared.items c.of-entry.result.value c.args.graph.now (sym (c.in_ok-first.ensures.rests.same_roots ∙ c.in_ok-round.ensures.begins.0)) (sym c.of-entry.ensures)
     (c.in_ok-first.ensures.truth c.in_ok-shared.shared.items c.args.graph.now (λ laws past h. ([], c.in_ok-round.ensures.truth g.R.Rules.next laws past h)))
 
 pub returns-then-has_ready-clause-law : goal.returns-then-has_ready-clause-law
-returns-then-has_ready-clause-law g c = if_ok c.by_workers.result
-    (λ done. moved (λ rs entry. Calls g.R.Rules.next (leaves.read c.args.tree.now) rs entry c.by_workers.new.graph (Ok done.1.items)) c.args.roots.now c.make_first_turns.new.round.roots.items c.args.graph.now c.of-entry.result.value
-    (c.in_ok-first.ensures.rests.same_roots ∙ c.in_ok-round.ensures.begins.0 ∙ c.in_ok-shared.ensures) c.of-entry.ensures) c.by_workers.ensures.law
+returns-then-has_ready-clause-law g c = if_ok c.evaluate_with_workers.result
+    (λ done. moved (λ rs entry. Calls g.R.Rules.next (leaves.read c.args.tree.now) rs entry c.evaluate_with_workers.new.graph (Ok done.1.items)) c.args.roots.now c.make_first_turns.new.round.roots.items c.args.graph.now c.of-entry.result.value
+    (c.in_ok-first.ensures.rests.same_roots ∙ c.in_ok-round.ensures.begins.0 ∙ c.in_ok-shared.ensures) c.of-entry.ensures) c.evaluate_with_workers.ensures.law
 
 pub returns-then-has_ready-clause-stopped : goal.returns-then-has_ready-clause-stopped
-returns-then-has_ready-clause-stopped g c = if_err c.by_workers.result
-    (λ e. moved (λ rs entry. Calls g.R.Rules.next (leaves.read c.args.tree.now) rs entry c.by_workers.new.graph (Err e)) c.args.roots.now c.make_first_turns.new.round.roots.items c.args.graph.now c.of-entry.result.value
-    (c.in_ok-first.ensures.rests.same_roots ∙ c.in_ok-round.ensures.begins.0 ∙ c.in_ok-shared.ensures) c.of-entry.ensures) c.by_workers.ensures.stopped
+returns-then-has_ready-clause-stopped g c = if_err c.evaluate_with_workers.result
+    (λ e. moved (λ rs entry. Calls g.R.Rules.next (leaves.read c.args.tree.now) rs entry c.evaluate_with_workers.new.graph (Err e)) c.args.roots.now c.make_first_turns.new.round.roots.items c.args.graph.now c.of-entry.result.value
+    (c.in_ok-first.ensures.rests.same_roots ∙ c.in_ok-round.ensures.begins.0 ∙ c.in_ok-shared.ensures) c.of-entry.ensures) c.evaluate_with_workers.ensures.stopped
 
 pub returns-then-has_ready-clause-turns : goal.returns-then-has_ready-clause-turns
 returns-then-has_ready-clause-turns g c =
     let before = ap (total g.R.Rules.turns) c.in-Some.ensures.items in let before' = total_snoc g.R.Rules.turns c.pop.new.self.items c.in-Some.own in
     let after = ap (total g.R.Rules.turns) c.push_reserved.ensures.items in let after' = total_snoc g.R.Rules.turns c.pop.new.self.items c.make_first_turns.new.rules in
     let counted = c.in_ok-first.ensures.counted in
-    if_ok c.by_workers.result (λ done turns. omega (arith, before, before', after, after', counted, turns)) c.by_workers.ensures.turns
+    if_ok c.evaluate_with_workers.result (λ done turns. omega (arith, before, before', after, after', counted, turns)) c.evaluate_with_workers.ensures.turns
 
 pub returns-then-has_ready-clause-hands : goal.returns-then-has_ready-clause-hands
 returns-then-has_ready-clause-hands g c =
     let before = ap length c.in-Some.ensures.items in let before' = length-append c.pop.new.self.items (c.in-Some.own ∷ []) in
     let after = ap length c.push_reserved.ensures.items in let after' = length-append c.pop.new.self.items (c.make_first_turns.new.rules ∷ []) in
-    if_ok c.by_workers.result (λ done many. omega (arith, before, before', after, after', many)) c.by_workers.ensures.hands
+    if_ok c.evaluate_with_workers.result (λ done many. omega (arith, before, before', after, after', many)) c.evaluate_with_workers.ensures.hands
 
 pub returns-then-has_ready-clause-budget : goal.returns-then-has_ready-clause-budget
-returns-then-has_ready-clause-budget g c = λ e. moved (λ rs entry. HasOpenRoot g.R.Rules.next (leaves.read c.args.tree.now) rs entry c.by_workers.new.graph)
+returns-then-has_ready-clause-budget g c = λ e. moved (λ rs entry. HasOpenRoot g.R.Rules.next (leaves.read c.args.tree.now) rs entry c.evaluate_with_workers.new.graph)
     c.args.roots.now c.make_first_turns.new.round.roots.items c.args.graph.now c.of-entry.result.value (c.in_ok-first.ensures.rests.same_roots ∙ c.in_ok-round.ensures.begins.0 ∙ c.in_ok-shared.ensures) c.of-entry.ensures
-    (c.by_workers.ensures.budget e)
+    (c.evaluate_with_workers.ensures.budget e)
 
 pub returns-then-has_ready-clause-spent : goal.returns-then-has_ready-clause-spent
-returns-then-has_ready-clause-spent g c = λ e. moved (λ rs entry. HasTurnToMake g.R.Rules.next (leaves.read c.args.tree.now) rs entry c.by_workers.new.graph)
+returns-then-has_ready-clause-spent g c = λ e. moved (λ rs entry. HasTurnToMake g.R.Rules.next (leaves.read c.args.tree.now) rs entry c.evaluate_with_workers.new.graph)
     c.args.roots.now c.make_first_turns.new.round.roots.items c.args.graph.now c.of-entry.result.value (c.in_ok-first.ensures.rests.same_roots ∙ c.in_ok-round.ensures.begins.0 ∙ c.in_ok-shared.ensures) c.of-entry.ensures
-    (c.by_workers.ensures.spent e)
+    (c.evaluate_with_workers.ensures.spent e)
 
 pub returns-in_err-runs-clause-stopped : goal.returns-in_err-runs-clause-stopped
 returns-in_err-runs-clause-stopped g c =

@@ -1,6 +1,6 @@
 use Rattle.indexmap.specs.IndexMap.{index_map_len}
 use Rattle.node.specs.Graphs.{record_at}
-use Rattle.open_nodes.specs.Nodes.{Holds}
+use Rattle.round_nodes.specs.Nodes.{Holds}
 use Rattle.round.specs.Closing.{Descends, HasTaken}
 use Rattle.round.proofs.closing.close_all.Given as goal
 

@@ -2,7 +2,7 @@ use Rattle.std.proofs.Common.{List, refl, subst, ◌∙◌, ap}
 use Rattle.std.specs.Map.{lookup}
 use Rattle.keys.specs.Keys.{key_eq}
 use Rattle.keys.specs.declared.key.Key.{Key}
-use Rattle.open_nodes.specs.declared.table.Node.{Node}
+use Rattle.round_nodes.specs.declared.table.Node.{Node}
 use Rattle.node.specs.Graphs.{record_at}
 use Rattle.node.specs.Records.{items_of}
 use Rattle.round.specs.Closing.{StopsIn}

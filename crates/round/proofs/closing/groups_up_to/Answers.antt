@@ -4,12 +4,12 @@ use Rattle.std.proofs.lemmas.List.{map-append}
 use Rattle.std.specs.Option.{option_map}
 use Rattle.std.specs.declared.alloc.Global.{Global}
 use Rattle.std.specs.declared.vec.Vec.{Vec}
-use Rattle.evaluation.specs.Graph.{Record}
+use Rattle.engine_semantics.specs.Graph.{Record}
 use Rattle.keys.specs.declared.key.Key.{Key}
 use Rattle.keys.specs.declared.value.Value.{Value}
 use Rattle.node.specs.Records.{items_of}
 use Rattle.node.proofs.Lists.{some_is}
-use Rattle.open_nodes.proofs.Grouping.{taken_got}
+use Rattle.round_nodes.proofs.Grouping.{taken_got}
 use Rattle.round.proofs.closing.groups_up_to.Goals as goal
 
 pub loop-i-init : goal.loop-i-init

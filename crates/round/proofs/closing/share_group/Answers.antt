@@ -1,6 +1,6 @@
 use Rattle.std.proofs.Common.{◌∙◌, ◌∷◌, ◌++◌, [], ap, sym, take}
 use Rattle.keys.specs.declared.key.Key.{Key}
-use Rattle.open_nodes.proofs.Grouping.{taken_got}
+use Rattle.round_nodes.proofs.Grouping.{taken_got}
 use Rattle.round.proofs.closing.share_group.Goals as goal
 
 pub loop-i-preserved : goal.loop-i-preserved

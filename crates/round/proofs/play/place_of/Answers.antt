@@ -1,9 +1,9 @@
 use Rattle.std.proofs.Common.{inl, inr, ◌∙◌, take, sym, ap, subst}
-use Rattle.evaluation.specs.Value.{In}
+use Rattle.engine_semantics.specs.Value.{In}
 use Rattle.keys.specs.Jobs.{Outcome}
 use Rattle.keys.proofs.KeyLaws.{exact_key_eq}
 use Rattle.node.proofs.Lists.{true_false}
-use Rattle.open_nodes.proofs.Grouping.{split_at, taken_next, snoc_in}
+use Rattle.round_nodes.proofs.Grouping.{split_at, taken_next, snoc_in}
 use Rattle.round.proofs.PlayedTurns.{all_taken}
 use Rattle.round.proofs.play.place_of.Goals as goal
 

@@ -1,18 +1,18 @@
 use Rattle.std.proofs.Common.{◌+◌, ℕ, inl, inr, List, [], take, sym, ◌∙◌, ap, subst, arith}
 use Rattle.keys.specs.Leaves as leaves
-use Rattle.evaluation.specs.Choices.{none, one}
-use Rattle.evaluation.specs.Choices as choices
+use Rattle.engine_semantics.specs.Choices.{none, one}
+use Rattle.engine_semantics.specs.Choices as choices
 use Rattle.keys.specs.Cycles.{cycle}
 use Rattle.keys.specs.declared.key.Key.{Key}
 use Rattle.node.specs.Graphs.{GraphView, record_at}
-use Rattle.open_nodes.specs.Nodes.{IsUnsettled}
-use Rattle.evaluation.specs.Value.{In}
+use Rattle.round_nodes.specs.Nodes.{IsUnsettled}
+use Rattle.engine_semantics.specs.Value.{In}
 use Rattle.node.proofs.Lists.{on_err, true_false}
-use Rattle.open_nodes.specs.Truths.{IsNext}
-use Rattle.round.specs.Rounds.{standing}
+use Rattle.round_nodes.specs.Invariants.{IsNext}
+use Rattle.round.specs.Rounds.{round_view}
 use Rattle.round.specs.declared.stop.Stop.TheVariants as Stop
 use Rattle.round.proofs.Confirming.{take_whole}
-use Rattle.open_nodes.proofs.Grouping.{split_at, taken_next}
+use Rattle.round_nodes.proofs.Grouping.{split_at, taken_next}
 use Rattle.round.proofs.Budgets.{at_got, ended_in_time, stalled_in_time, stopped_in_time}
 use Rattle.round.proofs.Resting.{root_open}
 use Rattle.round.proofs.Following.{stalled_is, lacks_root}
@@ -26,7 +26,7 @@ pub loop-n-init : goal.loop-n-init
 loop-n-init g c =
     let o = c.in_ok-round.ensures in
     record {
-      playing = (o.beside, none_out c.open.new.graph (standing c.in_ok-round.round) c.new-turns.result.items c.new-turns.ensures.items o.begins.1);
+      playing = (o.beside, none_out c.open.new.graph (round_view c.in_ok-round.round) c.new-turns.result.items c.new-turns.ensures.items o.begins.1);
       came = λ laws past h. (record { roots = h.of_roots ∙ sym o.begins.0; truth = o.truth g.R.Rules.next laws past h; follows = o.follows }, none);
       not_sooner = λ laws past h m l. absurd (omega arith);
       handed = none_handed c.in_ok-round.round c.new-turns.result.items c.new-turns.ensures.items o.made;
@@ -50,7 +50,7 @@ returns-then-stalled-clause-replays g c = λ past h.
       record {
         number = c.loop-n.n;
         legal = w.1;
-        at_stall = stalled_is g.R.Rules.next (leaves.read c.args.tree.now) laws past _ c.loop-n.graph (standing c.loop-n.round) i.playing.0.0 w.0.roots w.0.truth stall;
+        at_stall = stalled_is g.R.Rules.next (leaves.read c.args.tree.now) laws past _ c.loop-n.graph (round_view c.loop-n.round) i.playing.0.0 w.0.roots w.0.truth stall;
         turns = sym (c.in_ok-close_stall.ensures.made (hands (take c.loop-n.n c.args.choices.now)) back);
         not_sooner = i.not_sooner laws past h;
       },
@@ -95,7 +95,7 @@ returns-then-stalled-clause-unspent g c = λ past h.
     let i = c.loop-n.invariant in
     let w = i.came laws past h in
     stalled_in_time g.R.Rules.next (leaves.read c.args.tree.now) past c.args.choices.now c.args.budget c.loop-n.n
-    (stalled_is g.R.Rules.next (leaves.read c.args.tree.now) laws past _ c.loop-n.graph (standing c.loop-n.round) i.playing.0.0 w.0.roots w.0.truth (c.stalled.ensures.0 c.if-stalled.true))
+    (stalled_is g.R.Rules.next (leaves.read c.args.tree.now) laws past _ c.loop-n.graph (round_view c.loop-n.round) i.playing.0.0 w.0.roots w.0.truth (c.stalled.ensures.0 c.if-stalled.true))
     (within_left c.loop-n.left (hands (take c.loop-n.n c.args.choices.now)) c.args.budget i.spent)
 
 pub returns-in-Ok-false-clause-unspent : goal.returns-in-Ok-false-clause-unspent
@@ -116,7 +116,7 @@ returns-in-Err-clause-spent g c = λ e.
 
 pub returns-in-Ok-false-clause-turns : goal.returns-in-Ok-false-clause-turns
 returns-in-Ok-false-clause-turns g c =
-    counted_still c.in-Ok-false.field-0 (hand_of c.index-choices-n.result) (g.R.Rules.turns c.loop-n.rules) (g.R.Rules.turns c.choose.new.rules) (hands (take c.loop-n.n c.args.choices.now)) (g.R.Rules.turns c.args.rules.now) c.in-Ok-false.field-0-test c.in-Ok-false.ensures.counted c.loop-n.invariant.counted
+    counted_still c.in-Ok-false.field-0 (hand_of c.index-choices-n.result) (g.R.Rules.turns c.loop-n.rules) (g.R.Rules.turns c.play_choice.new.rules) (hands (take c.loop-n.n c.args.choices.now)) (g.R.Rules.turns c.args.rules.now) c.in-Ok-false.field-0-test c.in-Ok-false.ensures.counted c.loop-n.invariant.counted
 
 pub returns-in-Ok-false-clause-replays : goal.returns-in-Ok-false-clause-replays
 returns-in-Ok-false-clause-replays g c = λ past h.
@@ -148,7 +148,7 @@ loop-n-preserved g c =
           let w = c.loop-n.invariant.came laws past h in
           let plays = rw c.in-Ok-true.field-0-test at c.in-Ok-true.ensures.plays in
           let p = plays laws past _ w.0 in (
-            subst (λ (cs : List (choices.Choice Key)). HasCome g.R.Rules.next (leaves.read c.args.tree.now) past cs c.choose.new.graph c.choose.new.round) (sym newest_is) p.1,
+            subst (λ (cs : List (choices.Choice Key)). HasCome g.R.Rules.next (leaves.read c.args.tree.now) past cs c.play_choice.new.graph c.play_choice.new.round) (sym newest_is) p.1,
             subst (λ (cs : List (choices.Choice Key)). choices.Legal g.R.Rules.next cycle (leaves.read c.args.tree.now) (record_at past.entry) past.roots cs) (sym newest_is) (one p.0 w.1),
           );
       not_sooner = λ laws past h m l. elim (below_next m c.loop-n.n l) [
@@ -158,10 +158,10 @@ loop-n-preserved g c =
             let p = c.loop-n.invariant.playing in
             let k = one_open c.loop-n.graph c.loop-n.round c.loop-n.turns.items p (λ s. true_false (c.stalled.ensures.1 s) c.if-stalled.false) in
             subst (λ (n : ℕ). LacksRoot g.R.Rules.next (leaves.read c.args.tree.now) past (take n c.args.choices.now)) (sym e)
-            (lacks_root g.R.Rules.next (leaves.read c.args.tree.now) laws past _ c.loop-n.graph (standing c.loop-n.round) p.0.0 w.0.roots w.0.truth k.0 k.1)
+            (lacks_root g.R.Rules.next (leaves.read c.args.tree.now) laws past _ c.loop-n.graph (round_view c.loop-n.round) p.0.0 w.0.roots w.0.truth k.0 k.1)
       ];
-      handed = subst (HasHanded c.choose.new.round c.choose.new.turns.items) (sym hands_are) (c.in-Ok-true.ensures.hands c.in-Ok-true.field-0-test _ c.loop-n.invariant.handed);
-      counted = counted_on c.in-Ok-true.field-0 (hand_of c.index-choices-n.result) (g.R.Rules.turns c.loop-n.rules) (g.R.Rules.turns c.choose.new.rules) (hands (take c.loop-n.n c.args.choices.now)) (hands (take (c.loop-n.n + 1) c.args.choices.now)) (g.R.Rules.turns c.args.rules.now) c.in-Ok-true.field-0-test c.in-Ok-true.ensures.counted c.loop-n.invariant.counted hands_are;
+      handed = subst (HasHanded c.play_choice.new.round c.play_choice.new.turns.items) (sym hands_are) (c.in-Ok-true.ensures.hands c.in-Ok-true.field-0-test _ c.loop-n.invariant.handed);
+      counted = counted_on c.in-Ok-true.field-0 (hand_of c.index-choices-n.result) (g.R.Rules.turns c.loop-n.rules) (g.R.Rules.turns c.play_choice.new.rules) (hands (take c.loop-n.n c.args.choices.now)) (hands (take (c.loop-n.n + 1) c.args.choices.now)) (g.R.Rules.turns c.args.rules.now) c.in-Ok-true.field-0-test c.in-Ok-true.ensures.counted c.loop-n.invariant.counted hands_are;
       spent = one_spent c.loop-n.left c.hands_in.result (hands (take c.loop-n.n c.args.choices.now)) (hands (take (c.loop-n.n + 1) c.args.choices.now)) (hand_of c.index-choices-n.result) c.args.budget c.hands_in.ensures (c.in-Ok-true.ensures.left c.in-Ok-true.field-0-test) hands_are c.loop-n.invariant.spent;
     }
 
@@ -181,7 +181,7 @@ returns-then-stalled-2-clause-replays g c = λ past h.
       record {
         number = c.loop-n.n;
         legal = w.1;
-        at_stall = stalled_is g.R.Rules.next (leaves.read c.args.tree.now) laws past _ c.loop-n.graph (standing c.loop-n.round) i.playing.0.0 w.0.roots w.0.truth stall;
+        at_stall = stalled_is g.R.Rules.next (leaves.read c.args.tree.now) laws past _ c.loop-n.graph (round_view c.loop-n.round) i.playing.0.0 w.0.roots w.0.truth stall;
         turns = sym (c.in_ok-close_stall-2.ensures.made (hands (take c.loop-n.n c.args.choices.now)) back);
         not_sooner = i.not_sooner laws past h;
       },

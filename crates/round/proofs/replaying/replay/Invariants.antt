@@ -1,6 +1,6 @@
 use Rattle.std.proofs.Common.{◌≡◌, ◌+◌, ◌<◌, ℕ, take}
 use Rattle.keys.specs.Leaves as leaves
-use Rattle.open_nodes.specs.Truths.{IsNext, Past}
+use Rattle.round_nodes.specs.Invariants.{IsNext, Past}
 use Rattle.round.specs.Call.{IsHistory}
 use Rattle.round.specs.Playing.{IsPlaying, HasCome, HasHanded}
 use Rattle.round.specs.Replays.{AreLegal, LacksRoot, newest, hands}

@@ -1,4 +1,4 @@
-use Rattle.open_nodes.specs.Nodes.{node_at}
+use Rattle.round_nodes.specs.Nodes.{node_at}
 use Rattle.node.proofs.Reaching.{in_at_is}
 use Rattle.round.proofs.Rounding.{none_open_more, none_open_all, is_one}
 use Rattle.round.proofs.rounds.any_open.Goals as goal

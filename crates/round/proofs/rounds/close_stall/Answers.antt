@@ -1,8 +1,8 @@
 use Rattle.std.proofs.Common.{◌∙◌, refl, sym, ap, subst, List}
-use Rattle.evaluation.specs.Value.{In}
+use Rattle.engine_semantics.specs.Value.{In}
 use Rattle.node.proofs.Lists.{on_err}
-use Rattle.open_nodes.specs.TurnCounts.{turns_of}
-use Rattle.open_nodes.specs.declared.run.Run.{Run}
+use Rattle.round_nodes.specs.TurnCounts.{turns_of}
+use Rattle.round_nodes.specs.declared.run.Run.{Run}
 use Rattle.round.specs.Call.{IsCall}
 use Rattle.round.proofs.Resting.{call_ends, ends_made}
 use Rattle.round.proofs.rounds.close_stall.Goals as goal

@@ -1,9 +1,9 @@
 use Rattle.std.proofs.Common.{◌≡◌, ◌+◌, ◌≤◌, ℕ, List, [], ◌∙◌, ap, sym, subst, arith}
-use Rattle.evaluation.specs.Value.{In}
+use Rattle.engine_semantics.specs.Value.{In}
 use Rattle.keys.specs.Leaves as leaves
 use Rattle.keys.specs.declared.key.Key.{Key}
 use Rattle.node.proofs.Lists.{on_err}
-use Rattle.open_nodes.specs.Truths.{IsNext}
+use Rattle.round_nodes.specs.Invariants.{IsNext}
 use Rattle.round.specs.Since.{IsTrueSinceSome}
 use Rattle.round.proofs.NextTurns.{wants_turn}
 use Rattle.round.proofs.Resting.{root_open}
@@ -26,9 +26,9 @@ same_count made budget base a e f g = omega (arith, e, f, g)
 
 pub loop-made-preserved : goal.loop-made-preserved
 loop-made-preserved g c = record {
-  resting = c.in_ok-turn-in-Some.ensures.turns c.args.roots.now c.loop-made._made c.loop-made.invariant.resting;
-  truth = λ laws past h. let t = c.loop-made.invariant.truth laws past h in (_, c.in_ok-turn-in-Some.ensures.truth laws past t.0 t.1);
-  counted = one_more (g.R.Rules.turns c.turn.new.rules) (g.R.Rules.turns c.loop-made.rules) (g.R.Rules.turns c.args.rules.now) c.loop-made._made c.in_ok-turn-in-Some.ensures.counted c.loop-made.invariant.counted;
+  resting = c.in_ok-make_turn-in-Some.ensures.turns c.args.roots.now c.loop-made._made c.loop-made.invariant.resting;
+  truth = λ laws past h. let t = c.loop-made.invariant.truth laws past h in (_, c.in_ok-make_turn-in-Some.ensures.truth laws past t.0 t.1);
+  counted = one_more (g.R.Rules.turns c.make_turn.new.rules) (g.R.Rules.turns c.loop-made.rules) (g.R.Rules.turns c.args.rules.now) c.loop-made._made c.in_ok-make_turn-in-Some.ensures.counted c.loop-made.invariant.counted;
 }
 
 pub close_stall-requires-clause-stalled : goal.close_stall-requires-clause-stalled
@@ -90,10 +90,10 @@ returns-in_err-next_key-clause-stopped g c =
     let laws : IsNext g.R.Rules.next = record { groups_differ = g.met.R.Rules.groups_differ; ends_plain = g.met.R.Rules.ends_plain } in
     on_err c.from_residual-in_err-next_key.result (λ past h. (c.loop-made.invariant.truth laws past h).1.after)
 
-pub returns-in_err-turn-in-Some-clause-stopped : goal.returns-in_err-turn-in-Some-clause-stopped
-returns-in_err-turn-in-Some-clause-stopped g c =
+pub returns-in_err-make_turn-in-Some-clause-stopped : goal.returns-in_err-make_turn-in-Some-clause-stopped
+returns-in_err-make_turn-in-Some-clause-stopped g c =
     let laws : IsNext g.R.Rules.next = record { groups_differ = g.met.R.Rules.groups_differ; ends_plain = g.met.R.Rules.ends_plain } in
-    on_err c.from_residual-in_err-turn-in-Some.result (λ past h. c.in_err-turn-in-Some.ensures.truth laws past (c.loop-made.invariant.truth laws past h).0 (c.loop-made.invariant.truth laws past h).1)
+    on_err c.from_residual-in_err-make_turn-in-Some.result (λ past h. c.in_err-make_turn-in-Some.ensures.truth laws past (c.loop-made.invariant.truth laws past h).0 (c.loop-made.invariant.truth laws past h).1)
 
 pub returns-then-has_ready-clause-stopped : goal.returns-then-has_ready-clause-stopped
 returns-then-has_ready-clause-stopped g c = λ past h.

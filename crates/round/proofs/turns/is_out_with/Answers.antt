@@ -4,8 +4,8 @@ use Rattle.keys.specs.Turns.{values}
 use Rattle.node.specs.Graphs.{record_at}
 use Rattle.node.specs.Records.{items_of}
 use Rattle.node.proofs.Lists.{true_false}
-use Rattle.open_nodes.specs.Nodes.{node_at}
-use Rattle.open_nodes.specs.Members.{Answers}
+use Rattle.round_nodes.specs.Nodes.{node_at}
+use Rattle.round_nodes.specs.Members.{Answers}
 use Rattle.round.proofs.Rounding.{out_never_none, out_decided}
 use Rattle.round.proofs.turns.is_out_with.Goals as goal
 

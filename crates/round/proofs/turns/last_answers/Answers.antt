@@ -2,7 +2,7 @@ use Rattle.std.proofs.Common.{◌∙◌, subst}
 use Rattle.std.specs.Option.{option_map}
 use Rattle.keys.specs.Turns.{values}
 use Rattle.node.specs.Graphs.{record_at}
-use Rattle.open_nodes.specs.Members.{Answers}
+use Rattle.round_nodes.specs.Members.{Answers}
 use Rattle.round.proofs.Pausing.{last_one}
 use Rattle.round.proofs.turns.last_answers.Goals as goal
 

@@ -1,6 +1,6 @@
 use Rattle.std.proofs.Common.{◌≡◌, drop, map}
-use Rattle.tree.specs.Statements.{param_of}
-use Rattle.grammar.specs.Targets.{has_name}
+use Rattle.syntax_tree.specs.Statements.{param_of}
+use Rattle.syntax_grammar.specs.Targets.{has_name}
 use Rattle.syntax.proofs.parameters.has_name.Given as goal
 
 abbrev pub invariant-loop-p : goal.invariant-loop-p

@@ -1,8 +1,8 @@
 use Rattle.std.proofs.Common.{◌≡◌, ◌≤◌, ℕ, List, length, drop, map}
 use Rattle.std.specs.HashSet.{contains}
-use Rattle.meaning.specs.Comparing.{same_text}
-use Rattle.grammar.specs.Targets.{has_name}
-use Rattle.tree.specs.Statements.{param_of}
+use Rattle.values_semantics.specs.Comparing.{same_text}
+use Rattle.syntax_grammar.specs.Targets.{has_name}
+use Rattle.syntax_tree.specs.Statements.{param_of}
 use Rattle.syntax.proofs.parameters.names_of.Given as goal
 
 abbrev pub invariant-loop-i : goal.invariant-loop-i

@@ -10,7 +10,7 @@ returns-then-finds_empty-clause-posted g c = let did = c.finds_empty.ensures.emp
   search rules,
   (
     ap (λ l. get_elem? l c.loop-place.place) (sym (looked_out _ _ _ _ i.3)) ∙ did.0,
-    (_, i.3, ap (λ m. m.0) c.fill.ensures.posted ∙ ap (λ m. outs m.0 c.loop-place.place (Some c.args.job)) did.1),
+    (_, i.3, ap (λ m. m.0) c.put_job.ensures.posted ∙ ap (λ m. outs m.0 c.loop-place.place (Some c.args.job)) did.1),
   ),
 )
 

@@ -1,5 +1,5 @@
 use Rattle.std.proofs.Common.{◌∙◌, ap, sym, arith, ℕ, List, [], Option, Some, ◌<◌, length, map as each}
-use Rattle.filetree.specs.NameMaps.{named}
+use Rattle.filetree.specs.NameMaps.{folder_entries}
 use Rattle.filetree.specs.Folders.{level}
 use Rattle.filetree.specs.Listings.{Names, names_in, sorted_names}
 use Rattle.filetree.proofs.Ascending.{sorted_stay}
@@ -9,8 +9,8 @@ use Rattle.filetree.proofs.folder.Folder.names.Goals as goal
 
 pub returns : goal.returns
 returns c =
-    let files = named c.self.inside.files in
-    let folders = named c.self.inside.folders in
+    let files = folder_entries c.self.inside.files in
+    let folders = folder_entries c.self.inside.folders in
     let parts = parts_of files folders c.self.invariant in
     let made : List (List ℕ) → List (List ℕ) → Option Names = λ files directories. Some (record { files = files; directories = directories }) in
     let size = ap (λ v. length v.entries) c.self.view_is in

@@ -7,6 +7,6 @@ use Rattle.filetree.proofs.tree.Tree.put.Goals as goal
 pub returns : goal.returns
 returns c = (
   c.in_ok-test_put.ensures,
-  put_entries (entries_of c.self.inside.root) (entries_of c.put_below.new.root) c.args.path.now c.args.text.now c.in_ok-put_below.ensures.ok
+  put_entries (entries_of c.self.inside.root) (entries_of c.put_in_root.new.root) c.args.path.now c.args.text.now c.in_ok-put_in_root.ensures.ok
       ∙ ap (λ m. map.insert m c.args.path.now c.args.text.now) c.self.view_is,
 )

@@ -1,6 +1,6 @@
 use Rattle.std.proofs.Common.{refl, sym, subst}
 use Rattle.keys.specs.Turns.{values}
-use Rattle.functions.specs.declared.reply.Reply.TheVariants as reply
+use Rattle.functions.specs.declared.reply.FileTurn.TheVariants as reply
 use Rattle.functions.specs.Goes.{IsMade}
 use Rattle.functions.specs.NodeStates.{HoldsFrom}
 use Rattle.functions.specs.Next.{next}
@@ -8,7 +8,7 @@ use Rattle.functions.proofs.HeldTurns.{asks_plainly, asks_holding}
 use Rattle.functions.proofs.loading.LoadingRules.turn.Goals as goal
 
 pub reply_of-requires : goal.reply_of-requires
-reply_of-requires c = subst (λ k. HoldsFrom c.args.state.held k (values c.args.answers.now)) (sym c.requires.1.0) c.requires.1.1
+reply_of-requires c = subst (λ k. HoldsFrom c.args.state.resume_point k (values c.args.answers.now)) (sym c.requires.1.0) c.requires.1.1
 
 pub returns-in-Ask-clause-is_next : goal.returns-in-Ask-clause-is_next
 returns-in-Ask-clause-is_next c = λ key f.

@@ -20,9 +20,9 @@ loop-directory-preserved c =
     let h = c.in-Some.ensures.cases in
     let split : ancestors c.loop-directory.rest.now ≡ ancestors c.in-Some.directory.now ++ c.in-Some.directory.now ∷ [] =
     ancestors_by_last c.loop-directory.rest.now h.0 h.1 h.2 ∙ ap (λ d. ancestors d ++ d ∷ []) (sym h.3) in
-    let is : c.in_ok-joined.field-0 ≡ joined c.self.inside.package_name c.in-Some.directory.now =
-    c.in_ok-joined.ensures ∙ ap (λ p. joined p c.in-Some.directory.now) c.as_str.ensures in
-    (search rules, one_more (joined c.self.inside.package_name) c.loop-directory.rest.now c.in-Some.directory.now c.in_ok-joined.field-0 c.loop-directory.names.items c.push.new.self.items split c.in_ok-push.ensures.items is ∙ c.loop-directory.invariant.1)
+    let is : c.in_ok-join_parts.field-0 ≡ joined c.self.inside.package_name c.in-Some.directory.now =
+    c.in_ok-join_parts.ensures ∙ ap (λ p. joined p c.in-Some.directory.now) c.as_str.ensures in
+    (search rules, one_more (joined c.self.inside.package_name) c.loop-directory.rest.now c.in-Some.directory.now c.in_ok-join_parts.field-0 c.loop-directory.names.items c.push.new.self.items split c.in_ok-push.ensures.items is ∙ c.loop-directory.invariant.1)
 
 pub returns : goal.returns
 returns c =

@@ -2,8 +2,8 @@ use Rattle.std.proofs.Common.{◌∙◌, ap, sym, subst, map, string_bytes}
 use Rattle.filetree.specs.Files.{Files}
 use Rattle.filetree.specs.Lawful.{HasPaths}
 use Rattle.keys.specs.declared.key.Key.TheVariants as key
-use Rattle.commands.specs.View.{texts_seen}
-use Rattle.loader.specs.Effects.{AreHeld}
+use Rattle.loader_commands.specs.View.{texts_seen}
+use Rattle.loader.specs.Effects.{AreSettled}
 use Rattle.loader.specs.Sessions.{SessionView, files_of}
 use Rattle.loader.proofs.PackageTexts.{line_held, entries_held}
 use Rattle.loader.proofs.Requests.{held_in}
@@ -14,7 +14,7 @@ returns-clause-text c =
     let files = files_of c.args.self.now in
     let names = texts_seen c.args.names.now in
     let keys = map (λ n. key.Package n) names in
-    let held : AreHeld files keys c.self-2.inside.graph
+    let held : AreSettled files keys c.self-2.inside.graph
     = held_in files c.as_slice.result.now keys c.settle.new.self.graph c.self-2.inside.graph
     (c.as_slice.ensures.value ∙ c.in_ok-roots.ensures) (sym (ap (λ (x : SessionView). x.graph) c.self-2.view_is)) c.in_ok-runs.ensures.held in
     let good : HasPaths files = subst (λ (f : Files). HasPaths f) (c.self.invariant.0 ∙ ap files_of c.self.view_is) c.self.invariant.2 in
@@ -25,7 +25,7 @@ returns-clause-entries c =
     let files = files_of c.args.self.now in
     let names = texts_seen c.args.names.now in
     let keys = map (λ n. key.Package n) names in
-    let held : AreHeld files keys c.self-2.inside.graph
+    let held : AreSettled files keys c.self-2.inside.graph
     = held_in files c.as_slice.result.now keys c.settle.new.self.graph c.self-2.inside.graph
     (c.as_slice.ensures.value ∙ c.in_ok-roots.ensures) (sym (ap (λ (x : SessionView). x.graph) c.self-2.view_is)) c.in_ok-runs.ensures.held in
     let good : HasPaths files = subst (λ (f : Files). HasPaths f) (c.self.invariant.0 ∙ ap files_of c.self.view_is) c.self.invariant.2 in

@@ -1,10 +1,10 @@
 use Rattle.std.proofs.Common.{◌≡◌, ◌∙◌, ap, sym, subst, refl, ℕ, Option, None, string_bytes}
-use Rattle.commands.specs.View.{request_seen}
-use Rattle.loader.specs.Answers.{refused, IsValueOf, IsUnlessRefused, Tells}
+use Rattle.loader_commands.specs.View.{request_seen}
+use Rattle.loader.specs.Answers.{refusal_reply, IsValueOf, IsUnlessRefused, Tells}
 use Rattle.filetree.specs.Files.{Files}
 use Rattle.filetree.specs.Lawful.{HasPaths}
-use Rattle.commands.specs.Refusals.{request_refusal}
-use Rattle.loader.specs.Effects.{AreHeld, told_roots}
+use Rattle.loader_commands.specs.Refusals.{request_refusal}
+use Rattle.loader.specs.Effects.{AreSettled, reply_roots}
 use Rattle.loader.specs.Sessions.{SessionView, files_of}
 use Rattle.loader.proofs.Steps.{on_err}
 use Rattle.loader.proofs.Requests.{text_told, held_in}
@@ -15,8 +15,8 @@ pub returns-clause-text : goal.returns-clause-text
 returns-clause-text g c =
     let files = files_of c.args.self.now in
     let request = request_seen c.args.request.now in
-    let held : AreHeld files c.as_slice.result.now c.self-2.inside.graph
-    = held_in files c.in_ok-hands.roots.items c.as_slice.result.now c.evaluated_with.new.self.graph c.self-2.inside.graph
+    let held : AreSettled files c.as_slice.result.now c.self-2.inside.graph
+    = held_in files c.in_ok-hands.roots.items c.as_slice.result.now c.evaluate_request_with.new.self.graph c.self-2.inside.graph
     (sym c.as_slice.ensures.value) (sym (ap (λ (x : SessionView). x.graph) c.self-2.view_is)) c.in_ok-hands.ensures.held in
     let good : HasPaths files = subst (λ (f : Files). HasPaths f) (c.self.invariant.0 ∙ ap files_of c.self.view_is) c.self.invariant.2 in
     let accepted : request_refusal request ≡ None = c.requires.accepted in
@@ -25,10 +25,10 @@ returns-clause-text g c =
 
 pub returns-in_err-line-clause-stopped : goal.returns-in_err-line-clause-stopped
 returns-in_err-line-clause-stopped g c =
-    on_err _ (moved_stops (request_seen c.args.request.now) c.args.self.now c.evaluated_with.new.self c.in_ok-hands.runs.items c.in_ok-hands.ensures.moves)
+    on_err _ (moved_stops (request_seen c.args.request.now) c.args.self.now c.evaluate_request_with.new.self c.in_ok-hands.runs.items c.in_ok-hands.ensures.moves)
 
 pub returns-clause-held : goal.returns-clause-held
 returns-clause-held g c =
     let request = request_seen c.args.request.now in
     let files = files_of c.args.self.now in
-    held_in files c.in_ok-hands.roots.items (told_roots request files) c.evaluated_with.new.self.graph c.evaluated_with.new.self.graph c.in_ok-hands.ensures.roots refl c.in_ok-hands.ensures.held
+    held_in files c.in_ok-hands.roots.items (reply_roots request files) c.evaluate_request_with.new.self.graph c.evaluate_request_with.new.self.graph c.in_ok-hands.ensures.roots refl c.in_ok-hands.ensures.held

@@ -1,7 +1,7 @@
 use Rattle.std.proofs.Common.{◌≡◌, ◌∙◌, inl, inr, ap, sym, subst, refl, None, Some}
-use Rattle.commands.specs.Commands.{load}
-use Rattle.commands.specs.Refusals.{request_refusal}
-use Rattle.commands.specs.View.{request_seen, texts_seen}
+use Rattle.loader_commands.specs.Commands.{load}
+use Rattle.loader_commands.specs.Refusals.{request_refusal}
+use Rattle.loader_commands.specs.View.{request_seen, texts_seen}
 use Rattle.shelf.specs.Lists.{then_published}
 use Rattle.shelf.specs.Shelves.{published_by}
 use Rattle.loader.specs.Effects.{StopsRequest}

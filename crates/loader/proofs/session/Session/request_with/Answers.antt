@@ -1,11 +1,11 @@
 use Rattle.std.proofs.Common.{◌≡◌, ◌∙◌, ap, sym, subst, refl, ℕ, Option, None, string_bytes}
-use Rattle.commands.specs.View.{request_seen}
-use Rattle.loader.specs.Answers.{refused, IsValueOf, IsUnlessRefused, Tells}
+use Rattle.loader_commands.specs.View.{request_seen}
+use Rattle.loader.specs.Answers.{refusal_reply, IsValueOf, IsUnlessRefused, Tells}
 use Rattle.filetree.specs.Files.{Files}
 use Rattle.filetree.specs.Lawful.{HasPaths}
-use Rattle.commands.specs.Refusals.{request_refusal}
+use Rattle.loader_commands.specs.Refusals.{request_refusal}
 use Rattle.node.proofs.Lists.{none_some}
-use Rattle.loader.specs.Effects.{AreHeld}
+use Rattle.loader.specs.Effects.{AreSettled}
 use Rattle.loader.specs.Sessions.{SessionView, files_of}
 use Rattle.loader.proofs.Steps.{on_err}
 use Rattle.loader.proofs.Requests.{text_told, held_in}
@@ -16,7 +16,7 @@ pub returns-in-Some-clause-text : goal.returns-in-Some-clause-text
 returns-in-Some-clause-text g c =
     let files = files_of c.args.self.now in
     let request = request_seen c.args.request.now in
-    (refused c.in-Some.n, subst (λ (m : Option ℕ). IsUnlessRefused m (IsValueOf request files) (refused c.in-Some.n)) (sym (sym c.in_ok-n.ensures ∙ c.in-Some.is)) refl, c.in_ok-refused.ensures)
+    (refusal_reply c.in-Some.n, subst (λ (m : Option ℕ). IsUnlessRefused m (IsValueOf request files) (refusal_reply c.in-Some.n)) (sym (sym c.in_ok-n.ensures ∙ c.in-Some.is)) refl, c.in_ok-refusal_text.ensures)
 
 pub returns-in-Some-clause-held : goal.returns-in-Some-clause-held
 returns-in-Some-clause-held g c accepted = absurd (none_some (sym accepted ∙ sym c.in_ok-n.ensures ∙ c.in-Some.is))

@@ -1,5 +1,5 @@
 use Rattle.std.proofs.Common.{◌≡◌, ap, subst, ◌∙◌, ◌∷◌, List, length, arith}
-use Rattle.evaluation.specs.Value.{In}
+use Rattle.engine_semantics.specs.Value.{In}
 use Rattle.keys.specs.declared.key.Key.{Key}
 use Rattle.round.specs.JobsOut.{keys_after}
 use Rattle.round.proofs.JobsOut.{came_in}

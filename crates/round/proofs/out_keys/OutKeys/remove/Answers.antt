@@ -1,5 +1,5 @@
 use Rattle.std.proofs.Common.{◌≡◌, ap, sym, subst, ◌∙◌, length, arith}
-use Rattle.evaluation.specs.Value.{In}
+use Rattle.engine_semantics.specs.Value.{In}
 use Rattle.round.specs.JobsOut.{keys_after}
 use Rattle.round.proofs.JobsOut.{went_out, one_less}
 use Rattle.round.proofs.out_keys.OutKeys.remove.Goals as goal

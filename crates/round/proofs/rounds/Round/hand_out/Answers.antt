@@ -4,12 +4,12 @@ use Rattle.keys.specs.Keys.{key_eq}
 use Rattle.keys.specs.Turns.{values}
 use Rattle.keys.specs.declared.key.Key.{Key}
 use Rattle.keys.specs.declared.value.Value.{Value}
-use Rattle.evaluation.specs.Value.{In, first}
+use Rattle.engine_semantics.specs.Value.{In, first}
 use Rattle.node.specs.Graphs.{record_at}
-use Rattle.open_nodes.specs.Members.{AreAnswers}
-use Rattle.open_nodes.specs.Nodes.{groups_of}
+use Rattle.round_nodes.specs.Members.{AreAnswers}
+use Rattle.round_nodes.specs.Nodes.{groups_of}
 use Rattle.round.specs.NodeStates.{TakesOut, kept_answers}
-use Rattle.round.specs.Rounds.{IsBeside, Standing, standing}
+use Rattle.round.specs.Rounds.{IsBeside, RoundView, round_view}
 use Rattle.round.proofs.Handing.{ready_not_out, handed_whole, handed_keeps, handed_with, handed_more, handed_out, handed_turns, handed_true}
 use Rattle.round.proofs.Pausing.{fewer_paused, out_fewer, same_fewer, handed_paused, jobs_beside}
 use Rattle.round.proofs.Choosing.{ready_can, can_ready}
@@ -79,20 +79,20 @@ returns-in-Ok-clause-others g c = λ job o.
 pub returns-in-Ok-clause-possible : goal.returns-in-Ok-clause-possible
 returns-in-Ok-clause-possible g c = λ read.
     let j = rw c.in-Some.is at c.in_ok-needed.ensures in
-    λ next laws past cs roots t. ready_can next read laws past cs c.args.graph.now (standing c.args.self.now) c.requires.0 roots t c.args.key.now j.0
+    λ next laws past cs roots t. ready_can next read laws past cs c.args.graph.now (round_view c.args.self.now) c.requires.0 roots t c.args.key.now j.0
 
 pub returns-in-Ok-clause-follows : goal.returns-in-Ok-clause-follows
 returns-in-Ok-clause-follows g c =
     let j = rw c.in-Some.is at c.in_ok-needed.ensures in
     let t = subst (TakesOut c.args.self.now.kept c.take_job.new.kept) c.in_ok-name.ensures c.in-Ok.ensures.taken in
     let ready = c.requires.0.whole.ready_now c.args.key.now j.0 in
-    follows_hand (standing c.args.self.now) (record { roots = c.args.self.now.roots.items; table = c.set_out.new.table; out = c.add.new.self }) c.args.self.now.kept c.take_job.new.kept c.args.key.now ready.0 ready.1 c.set_out.ensures.phase t
+    follows_hand (round_view c.args.self.now) (record { roots = c.args.self.now.roots.items; table = c.set_out.new.table; out = c.add.new.self }) c.args.self.now.kept c.take_job.new.kept c.args.key.now ready.0 ready.1 c.set_out.ensures.phase t
     (put_in c.args.self.now.out c.add.new.self c.args.key.now c.in_ok-add.ensures.added)
 
 pub returns-in_default-clause-possible : goal.returns-in_default-clause-possible
 returns-in_default-clause-possible g c = λ read.
     let j = rw c.in_default.is at c.in_ok-needed.ensures in
-    λ next laws past cs roots t h. j (can_ready next read laws past cs c.args.graph.now (standing c.args.self.now) c.requires.0 roots t c.args.key.now h)
+    λ next laws past cs roots t h. j (can_ready next read laws past cs c.args.graph.now (round_view c.args.self.now) c.requires.0 roots t c.args.key.now h)
 
 pub remove-requires : goal.remove-requires
 remove-requires g c = subst (In c.args.key.now) (sym c.in_ok-add.ensures.added) first
@@ -115,5 +115,5 @@ pub returns-in-Err-clause-refused : goal.returns-in-Err-clause-refused
 returns-in-Err-clause-refused g c =
     let j = rw c.in-Some.is at c.in_ok-needed.ensures in
     let out = again c.args.self.now.out c.add.new.self c.remove.new.self c.args.key.now (λ i. ready_not_out c.args.graph.now c.args.self.now.table c.args.self.now.table c.args.key.now c.requires.0.whole j.0 (c.requires.0.all_out c.args.key.now i)) c.in_ok-add.ensures.added c.remove.ensures in
-    let whole : List Key → Standing = λ ks. record { roots = c.args.self.now.roots.items; table = c.args.self.now.table; out = ks } in
+    let whole : List Key → RoundView = λ ks. record { roots = c.args.self.now.roots.items; table = c.args.self.now.table; out = ks } in
     (ap whole out, c.in-Err.ensures.refused)

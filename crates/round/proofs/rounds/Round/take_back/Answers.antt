@@ -1,5 +1,5 @@
 use Rattle.node.proofs.Lists.{true_false}
-use Rattle.round.specs.Rounds.{standing}
+use Rattle.round.specs.Rounds.{round_view}
 use Rattle.round.proofs.Choosing.{out_job, job_out}
 use Rattle.round.proofs.rounds.Round.take_back.Goals as goal
 
@@ -11,8 +11,8 @@ returns-clause-back g c = (c.in_ok-is_out_with.ensures.0 c.if-not-branch.false, 
 
 pub returns-clause-possible : goal.returns-clause-possible
 returns-clause-possible g c = λ read next laws past cs roots t.
-    out_job next read laws past cs c.args.graph.now (standing c.args.self.now) c.requires.0 roots t c.args.turned.asked (c.in_ok-is_out_with.ensures.0 c.if-not-branch.false)
+    out_job next read laws past cs c.args.graph.now (round_view c.args.self.now) c.requires.0 roots t c.args.turned.asked (c.in_ok-is_out_with.ensures.0 c.if-not-branch.false)
 
 pub returns-then-not-branch-clause-strange : goal.returns-then-not-branch-clause-strange
 returns-then-not-branch-clause-strange g c = λ read next laws past cs roots t x.
-    true_false (c.in_ok-is_out_with.ensures.1 (job_out next read laws past cs c.args.graph.now (standing c.args.self.now) c.requires.0 roots t c.args.turned.asked x)) c.if-not-branch.true
+    true_false (c.in_ok-is_out_with.ensures.1 (job_out next read laws past cs c.args.graph.now (round_view c.args.self.now) c.requires.0 roots t c.args.turned.asked x)) c.if-not-branch.true

@@ -1,10 +1,10 @@
 use Rattle.std.proofs.Common.{rules, arith, ◌≡◌, ◌∙◌, ◌||◌, ap, cond, true, map, List}
 use Rattle.std.proofs.lemmas.Grind.{common_steps}
 use Rattle.std.specs.HashSet.{contains}
-use Rattle.meaning.specs.Comparing.{same_text}
-use Rattle.grammar.specs.Targets.{is_bound, has_name}
-use Rattle.tree.specs.Statements.{param_of}
-use Rattle.tree.specs.declared.def.Param.{Param}
+use Rattle.values_semantics.specs.Comparing.{same_text}
+use Rattle.syntax_grammar.specs.Targets.{is_bound, has_name}
+use Rattle.syntax_tree.specs.Statements.{param_of}
+use Rattle.syntax_tree.specs.declared.def.Param.{Param}
 use Rattle.syntax.proofs.ParameterNames.{knows_behind, defaults_behind}
 use Rattle.syntax.proofs.parameters.Parameters.with.Goals as goal
 use Rattle.syntax.proofs.parameters.Parameters.with.Goals.{then-self, else-self}

@@ -1,6 +1,0 @@
-use Rattle.std.proofs.Common.{refl}
-use Rattle.answers.proofs.AsText.{as_text}
-use Rattle.answers.proofs.order.text_of.Goals as goal
-
-pub returns-in-Ok : goal.returns-in-Ok
-returns-in-Ok c = as_text c.in-Ok.text.now c.args.bytes.now c.args.bytes.now c.in-Ok.ensures.cases refl

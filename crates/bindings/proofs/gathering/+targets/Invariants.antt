@@ -1,8 +1,0 @@
-use Rattle.std.proofs.Common.{drop}
-use Rattle.tree.specs.Bindings.{targets_names}
-use Rattle.tree.specs.View.{trees_of}
-use Rattle.bindings.proofs.Finds.{Left}
-use Rattle.bindings.proofs.gathering.+targets.Given as goal
-
-abbrev pub invariant-find_targets-loop-target : goal.invariant-find_targets-loop-target
-invariant-find_targets-loop-target l = Left l.fn.found (targets_names (trees_of l.targets)) l.found (targets_names (trees_of (drop l.target-index l.targets)))

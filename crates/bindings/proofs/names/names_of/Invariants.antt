@@ -1,6 +1,0 @@
-use Rattle.std.proofs.Common.{◌≡◌, ◌++◌, drop}
-use Rattle.bindings.specs.NameSets.{names_of_params}
-use Rattle.bindings.proofs.names.names_of.Given as goal
-
-abbrev pub invariant-loop-param : goal.invariant-loop-param
-invariant-loop-param l = l.names.items ++ names_of_params (drop l.param-index l.params) ≡ names_of_params l.params

@@ -1,6 +1,0 @@
-use Rattle.std.proofs.Common.{◌≡◌, drop}
-use Rattle.meaning.specs.Functions.{all_so, is_int}
-use Rattle.builtins.proofs.orders.are_ints.Given as goal
-
-abbrev pub invariant-loop-x : goal.invariant-loop-x
-invariant-loop-x l = all_so is_int (drop l.x-index l.xs) ≡ all_so is_int l.xs

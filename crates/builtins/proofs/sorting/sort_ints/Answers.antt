@@ -1,8 +1,0 @@
-use Rattle.std.proofs.Common.{rules}
-use Rattle.std.proofs.lemmas.List.Sorted.{answers_always}
-use Rattle.builtins.specs.Ranks.{int_of}
-use Rattle.builtins.proofs.SortOrder.{ints_sorted}
-use Rattle.builtins.proofs.sorting.sort_ints.Goals as goal
-
-pub returns : goal.returns
-returns c = λ s. ints_sorted s c.args.members.items c.sort_by_key.new.self.items c.requires (c.in_ok-sort_by_key.ensures.sorted int_of (answers_always _ _ _ (λ f a r g h. search rules))) (c.in_ok-sort_by_key.ensures.stable int_of (answers_always _ _ _ (λ f a r g h. search rules)))

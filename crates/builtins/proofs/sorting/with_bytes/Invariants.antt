@@ -1,7 +1,0 @@
-use Rattle.std.proofs.Common.{◌≡◌, ◌++◌, drop, map}
-use Rattle.heap.specs.View.{store_of}
-use Rattle.builtins.specs.Ranks.{with_bytes}
-use Rattle.builtins.proofs.sorting.with_bytes.Given as goal
-
-abbrev pub invariant-loop-x : goal.invariant-loop-x
-invariant-loop-x l = l.all.items ++ map (with_bytes (store_of l.heap)) (drop l.x-index l.members) ≡ map (with_bytes (store_of l.heap)) l.members

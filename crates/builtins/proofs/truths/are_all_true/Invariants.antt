@@ -1,7 +1,0 @@
-use Rattle.std.proofs.Common.{◌≡◌, drop}
-use Rattle.meaning.specs.Functions.{all_true}
-use Rattle.heap.specs.View.{store_of}
-use Rattle.builtins.proofs.truths.are_all_true.Given as goal
-
-abbrev pub invariant-loop-member : goal.invariant-loop-member
-invariant-loop-member l = all_true (store_of l.heap) (drop l.member-index l.members) ≡ all_true (store_of l.heap) l.members

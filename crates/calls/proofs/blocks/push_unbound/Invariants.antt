@@ -1,7 +1,0 @@
-use Rattle.std.proofs.Common.{◌≡◌, ◌++◌, drop}
-use Rattle.language.specs.Names.{all_unbound}
-use Rattle.names.specs.View.{block_of}
-use Rattle.calls.proofs.blocks.push_unbound.Given as goal
-
-abbrev pub invariant-loop-name : goal.invariant-loop-name
-invariant-loop-name l = block_of l.slots ++ all_unbound (drop l.name-index l.names) ≡ block_of l.fn.slots ++ all_unbound l.names

@@ -1,7 +1,0 @@
-use Rattle.std.proofs.Common.{◌++◌, ap, ◌∙◌}
-use Rattle.language.specs.Names.{all_unbound}
-use Rattle.names.specs.View.{slots_of}
-use Rattle.calls.proofs.blocks.unbound.Goals as goal
-
-pub returns : goal.returns
-returns c = c.in_ok-push_unbound.ensures ∙ ap (λ l. slots_of l ++ all_unbound c.args.names.now) c.new-slots.ensures.items

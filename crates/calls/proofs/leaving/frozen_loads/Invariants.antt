@@ -1,7 +1,0 @@
-use Rattle.std.proofs.Common.{◌≡◌, ◌++◌, drop, map}
-use Rattle.language.specs.Files.{frozen_loads}
-use Rattle.tree.specs.Statements.{load_of}
-use Rattle.calls.proofs.leaving.frozen_loads.Given as goal
-
-abbrev pub invariant-loop-i : goal.invariant-loop-i
-invariant-loop-i l = l.all.items ++ frozen_loads (map load_of (drop l.i l.loads)) (drop l.i l.modules) ≡ frozen_loads (map load_of l.loads) l.modules

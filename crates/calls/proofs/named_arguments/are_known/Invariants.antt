@@ -1,8 +1,0 @@
-use Rattle.std.proofs.Common.{◌≡◌, drop, map}
-use Rattle.std.specs.Prelude.{zip}
-use Rattle.language.specs.Arguments.{are_parameters}
-use Rattle.tree.specs.Statements.{param_of}
-use Rattle.calls.proofs.named_arguments.are_known.Given as goal
-
-abbrev pub invariant-loop-i : goal.invariant-loop-i
-invariant-loop-i l = are_parameters (zip (drop l.i l.names) (drop l.i l.values)) (map param_of l.params) ≡ are_parameters (zip l.names l.values) (map param_of l.params)

@@ -1,6 +1,0 @@
-use Rattle.std.proofs.Common.{◌≡◌, drop}
-use Rattle.language.specs.Modules.{body_at, all_bodies}
-use Rattle.calls.proofs.reaching.reached.Given as goal
-
-abbrev pub invariant-loop-loaded : goal.invariant-loop-loaded
-invariant-loop-loaded l = body_at l.label (all_bodies (drop l.loaded-index l.loads)) ≡ body_at l.label (all_bodies l.loads)

@@ -1,6 +1,0 @@
--- The labels of modules.
-use Rattle.std.specs.Prelude.{ℕ, List, map}
-use Rattle.module_values.specs.Values.{Body}
-
-abbrev pub labels_of : List Body → List (List ℕ)
-labels_of bodies = map (λ b. b.label) bodies

@@ -1,0 +1,224 @@
+//! The answer of a call of `glob`.
+ghost use Rattle.std.specs.Prelude.{◌≡◌, ◌++◌, [], map, IfOk, OnOk};
+ghost use Rattle.labels.specs.Paths.{segments};
+ghost use Rattle.pattern.specs.Globs.{some_matches};
+ghost use Rattle.values_semantics.specs.Methods.{makes_texts};
+ghost use Rattle.values_semantics.specs.Heap.{makes_text};
+ghost use Rattle.evaluator_semantics.specs.Names.{has_name};
+ghost use Rattle.evaluator_semantics.specs.Sorting.{in_order};
+ghost use Rattle.evaluator_semantics.specs.Globs as globs;
+ghost use Rattle.evaluator_semantics.specs.Globs.{answer_to, found_or_none, makes_paths};
+ghost use Rattle.values_heap.specs.View.{store_of, Says, SaysItems};
+ghost use Rattle.evaluator_package_calls.specs.GlobResults.{kept_of, found_all, with_unanswered};
+ghost use Rattle.evaluator_package_calls.specs.AnswerTables.{HasTexts};
+
+use crate::answers::Answers;
+use crate::ordering::in_order;
+use base_types::{Memory, Text};
+use pattern::Pattern;
+use std::alloc::Global;
+use std::collections::HashSet;
+use values_heap::{Bytes, Halt, Heap, MAX_LENGTH, Object, Val};
+use values_semantics::faults;
+
+/// So many questions are compared with one another; for more a set of those that were seen is made.
+const FEW: usize = 16;
+
+// Returns whether a text is among others.
+fn has_name(x: &Text, texts: &[Text]) -> bool
+    ensures { result ≡ has_name x.now texts.now }
+{
+    for text in texts {
+        if *x == *text {
+            return true;
+        }
+    }
+    false
+}
+
+/// Returns the questions that have no answer, in order and each once.
+pub fn queries_without_result(
+    alloc: Global,
+    answers: &Answers<'_>,
+    questions: &[Text],
+) -> Result<Vec<Text>, Memory>
+    ensures { IfOk result (λ v. v.items ≡ globs.queries_without_result answers.now [] questions.now) }
+{
+    if questions.len() > FEW {
+        return many_unanswered(alloc, answers, questions);
+    }
+    let mut all = Vec::new(alloc);
+    for question in questions {
+        add_unanswered(&mut all, answers, question)?;
+    }
+    Ok(all)
+}
+
+// Adds a question, unless it has an answer or is there already.
+fn add_unanswered(all: &mut Vec<Text>, answers: &Answers<'_>, question: &Text) -> Result<(), Memory>
+    ensures { OnOk result (all.new.items ≡ with_unanswered question.now answers.now
+        all.old.items) }
+{
+    if answers.answer(question).is_some() {
+        return Ok(());
+    }
+    if has_name(question, all.as_slice()) {
+        return Ok(());
+    }
+    all.push(question.share()?)?;
+    Ok(())
+}
+
+// Returns those of many questions that have no answer, in order and each once.
+fn many_unanswered(
+    alloc: Global,
+    answers: &Answers<'_>,
+    questions: &[Text],
+) -> Result<Vec<Text>, Memory>
+    ensures { IfOk result (λ v. v.items ≡ globs.queries_without_result answers.now [] questions.now) }
+{
+    let mut seen = HashSet::new(alloc);
+    let mut all = Vec::new(alloc);
+    for question in questions {
+        note_unanswered(&mut seen, &mut all, answers, question)?;
+    }
+    Ok(all)
+}
+
+// Adds a question, unless it has an answer or is one of those that were seen.
+fn note_unanswered(
+    seen: &mut HashSet<Text>,
+    all: &mut Vec<Text>,
+    answers: &Answers<'_>,
+    question: &Text,
+) -> Result<(), Memory>
+    requires { HasTexts seen.old all.old.items }
+    ensures added { OnOk result (all.new.items ≡ with_unanswered question.now answers.now
+        all.old.items) }
+    ensures noted { OnOk result (HasTexts seen.new all.new.items) }
+{
+    if answers.answer(question).is_some() {
+        return Ok(());
+    }
+    if seen.contains(question) {
+        return Ok(());
+    }
+    seen.insert(question.share()?)?;
+    all.push(question.share()?)?;
+    Ok(())
+}
+
+/// Returns the paths that a call's questions find by their answers and that no exclude matches, in byte order and
+/// without repeats.
+pub fn glob_paths(
+    alloc: Global,
+    answers: &Answers<'_>,
+    questions: &[Text],
+    excludes: &[Pattern],
+) -> Result<Vec<Text>, Memory>
+    ensures { IfOk result (λ v. v.items ≡ in_order (λ path. path)
+        (kept_of excludes.now (found_all answers.now questions.now))) }
+{
+    let all = matching_paths(alloc, answers, questions, excludes)?;
+    in_order(alloc, all.as_slice())
+}
+
+// Returns the paths that some question finds and no exclude matches, as they are found.
+fn matching_paths(
+    alloc: Global,
+    answers: &Answers<'_>,
+    questions: &[Text],
+    excludes: &[Pattern],
+) -> Result<Vec<Text>, Memory>
+    ensures { IfOk result
+        (λ v. v.items ≡ kept_of excludes.now (found_all answers.now questions.now)) }
+{
+    let mut all = Vec::new(alloc);
+    for question in questions {
+        add_found(&mut all, answers, question, excludes)?;
+    }
+    Ok(all)
+}
+
+// Adds the paths that a question finds and no exclude matches.
+fn add_found(
+    all: &mut Vec<Text>,
+    answers: &Answers<'_>,
+    question: &Text,
+    excludes: &[Pattern],
+) -> Result<(), Memory>
+    ensures { OnOk result (all.new.items ≡ all.old.items ++ kept_of excludes.now
+        (found_or_none (answer_to question.now answers.now))) }
+{
+    match answers.answer(question) {
+        Some(paths) => {
+            add_paths(all, paths, excludes)?;
+            Ok(())
+        }
+        None => Ok(()),
+    }
+}
+
+// Adds the paths that no pattern matches.
+fn add_paths(all: &mut Vec<Text>, paths: &[Text], excludes: &[Pattern]) -> Result<(), Memory>
+    ensures { OnOk result (all.new.items ≡ all.old.items ++ kept_of excludes.now paths.now) }
+{
+    for path in paths {
+        if !some_matches(excludes, path.as_str()) {
+            all.push(path.share()?)?;
+        }
+    }
+    Ok(())
+}
+
+// Returns whether some pattern matches a path.
+fn some_matches(patterns: &[Pattern], path: &str) -> bool
+    ensures { result ≡ some_matches (map segments patterns.now) path.now }
+{
+    for pattern in patterns {
+        if pattern.matches(path) {
+            return true;
+        }
+    }
+    false
+}
+
+/// Makes a new list of paths, or returns fault 22 or 13.
+pub fn make_paths(heap: &mut Heap, allow_empty: bool, paths: &[Text]) -> Result<Val, Halt>
+    ensures { Says (makes_paths allow_empty paths.now (store_of heap.old)) result
+        (store_of heap.new) }
+{
+    if !allow_empty && paths.is_empty() {
+        return Err(Halt::Code(faults::EMPTY_GLOB));
+    }
+    if paths.len() > MAX_LENGTH {
+        return Err(Halt::Code(faults::TOO_LARGE));
+    }
+    let all = make_texts(heap, paths)?;
+    heap.make_list(all)
+}
+
+// Makes new strings, in order, or returns fault 13.
+fn make_texts(heap: &mut Heap, texts: &[Text]) -> Result<Vec<Val>, Halt>
+    ensures { SaysItems (makes_texts texts.now (store_of heap.old)) result (store_of heap.new) }
+{
+    let mut all = Vec::new(heap.alloc);
+    for text in texts {
+        match make_text(heap, text) {
+            Ok(made) => all.push(made)?,
+            Err(halt) => return Err(halt),
+        }
+    }
+    Ok(all)
+}
+
+/// Makes a new string, or returns fault 13.
+pub fn make_text(heap: &mut Heap, text: &Text) -> Result<Val, Halt>
+    ensures { Says (makes_text text.now (store_of heap.old)) result (store_of heap.new) }
+{
+    if text.as_str().len() > MAX_LENGTH {
+        return Err(Halt::Code(faults::TOO_LARGE));
+    }
+    let bytes = Bytes::of_text(text.share()?);
+    heap.make(Object::Text(bytes))
+}

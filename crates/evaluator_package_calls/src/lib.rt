@@ -1,0 +1,22 @@
+//! The package calls of the language: `package_name`, `glob` and the rules. Layer: evaluation of a file, on base,
+//! files, syntax and values. Begin at `rules.rt`.
+#![tactic(auto)]
+
+mod answering;
+mod answers;
+mod arguments;
+mod attributes;
+mod by_name;
+mod fields;
+mod globbing;
+mod kinds;
+mod ordering;
+mod rules;
+mod slots;
+mod spelling;
+mod strings;
+mod targets;
+
+pub use kinds::{CallResult, GlobResult, Package};
+pub use rules::package_call;
+pub use targets::targets_made;

@@ -1,0 +1,45 @@
+//! Which objects the names of an evaluation reach.
+
+use crate::state::{Block, FileNames, FunctionDefaults, State};
+use base_types::Memory;
+use values_heap::Marks;
+
+// Marks the values of a block's names as reached.
+fn mark_block(reached: &mut Marks, block: &Block) -> Result<(), Memory> {
+    for slot in block.slots.iter() {
+        if let Some(value) = slot.value {
+            reached.add(value)?;
+        }
+    }
+    Ok(())
+}
+
+/// Marks the values of the names in blocks as reached.
+pub fn mark_blocks(reached: &mut Marks, blocks: &[Block]) -> Result<(), Memory> {
+    for block in blocks {
+        mark_block(reached, block)?;
+    }
+    Ok(())
+}
+
+/// Marks the values of defaults as reached.
+pub(crate) fn mark_defaults(reached: &mut Marks, kept: &[FunctionDefaults]) -> Result<(), Memory> {
+    for k in kept {
+        reached.add_all(k.values.as_slice())?;
+    }
+    Ok(())
+}
+
+// Marks the values of a file's names and defaults as reached.
+fn mark_file(reached: &mut Marks, file: &FileNames) -> Result<(), Memory> {
+    mark_block(reached, &file.block)?;
+    file.defaults.reach(reached)
+}
+
+/// Marks the values of all names and defaults of an evaluation as reached.
+pub fn mark_names(reached: &mut Marks, state: &State) -> Result<(), Memory> {
+    for file in state.files.iter() {
+        mark_file(reached, file)?;
+    }
+    mark_blocks(reached, state.blocks.as_slice())
+}

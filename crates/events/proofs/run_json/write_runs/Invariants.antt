@@ -1,8 +1,0 @@
-use Rattle.std.proofs.Common.{◌≡◌, ◌++◌, drop, map}
-use Rattle.answers.specs.Answers.{list}
-use Rattle.answers.specs.Tokens.{tokens_of, rest_of}
-use Rattle.events.specs.Lines.{run_data}
-use Rattle.events.proofs.run_json.write_runs.Given as goal
-
-abbrev pub invariant-loop-run : goal.invariant-loop-run
-invariant-loop-run l = l.out ++ rest_of (map (run_data l.graph l.last.runs.entries) (drop l.run-index l.runs)) ≡ l.fn.out ++ tokens_of (list (map (run_data l.graph l.last.runs.entries) l.runs))

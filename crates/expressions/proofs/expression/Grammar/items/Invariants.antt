@@ -1,8 +1,0 @@
-use Rattle.std.proofs.Common.{◌≡◌, ◌-◌, map}
-use Rattle.tree.specs.View.{tree_of}
-use Rattle.expressions.specs.View.{left}
-use Rattle.grammar.specs.Expressions.{expr, items, items_after}
-use Rattle.expressions.proofs.expression.Grammar.items.Given as goal
-
-abbrev pub invariant-loop-turn : goal.invariant-loop-turn
-invariant-loop-turn g l = items (expr l.self.depth) l.closer (tree_of l.fn.first) (left l.fn.t) ≡ items_after (expr l.self.depth) l.closer (l._turn-end - l._turn) (map tree_of l.found.items) (left l.t)

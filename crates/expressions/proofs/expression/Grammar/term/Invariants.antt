@@ -1,9 +1,0 @@
-use Rattle.std.proofs.Common.{◌≡◌, ◌-◌}
-use Rattle.tree.specs.View.{tree_of}
-use Rattle.expressions.specs.View.{left}
-use Rattle.grammar.specs.declared.kind.Rank.TheVariants as r
-use Rattle.grammar.specs.Expressions.{expr, unary, term, chain_after}
-use Rattle.expressions.proofs.expression.Grammar.term.Given as goal
-
-abbrev pub invariant-loop-turn : goal.invariant-loop-turn
-invariant-loop-turn g l = term (expr l.self.depth) (left l.fn.t) ≡ chain_after (unary (expr l.self.depth)) r.Term (l._turn-end - l._turn) (tree_of l.whole) (left l.t)

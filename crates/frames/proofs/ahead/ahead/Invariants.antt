@@ -1,8 +1,0 @@
-use Rattle.std.proofs.Common.{◌≡◌, ◌≤◌, ◌<◌, ℕ, List}
-use Rattle.language.specs.Environment.{Env}
-use Rattle.names.specs.View.{world_of, here_of}
-use Rattle.frames.specs.Frames.{body, suite_from}
-use Rattle.frames.proofs.ahead.ahead.Given as goal
-
-abbrev pub invariant-loop-i : goal.invariant-loop-i
-invariant-loop-i l = ((env : Env) (n : ℕ) (running : List (List ℕ × List ℕ)) → let here = here_of l.at l.at.line running in body env n here (suite_from l.next l.ss) (world_of l.fn.state) ≡ body env n here (suite_from l.i l.ss) (world_of l.state)) × ((l.state.heap.steps ≤ l.fn.state.heap.steps) × (l.next < l.i → l.state.heap.steps < l.fn.state.heap.steps))

@@ -1,6 +1,0 @@
-use Rattle.std.proofs.Common.{length, refl}
-use Rattle.freezing.proofs.TupleKeys.{tuple_keyed}
-use Rattle.freezing.proofs.thawing.+keying.Goals as goal
-
-pub add_tuple-returns : goal.add_tuple-returns
-add_tuple-returns t c = tuple_keyed c.args.all.now.items c.push.new.self.items c.add_keys.new.all.items c.args.members.now (length c.args.members.now) c.in_ok-push.ensures.items refl c.in_ok-add_keys.ensures

@@ -1,0 +1,13 @@
+use Rattle.std.proofs.Common.{◌≡◌, ◌≤◌, length, drop}
+use Rattle.filetree.specs.Listings.{sorted_names}
+use Rattle.functions_directories.proofs.ordering.are_in_order.Given as goal
+
+-- the texts from the place on are in order
+abbrev pub invariant-loop-i : goal.invariant-loop-i
+invariant-loop-i l = record {
+  within : l.i ≤ length l.texts;
+  sorted : sorted_names (drop l.i l.texts) ≡ drop l.i l.texts;
+}
+
+abbrev pub decreases-loop-i : goal.decreases-loop-i
+decreases-loop-i l = l.i

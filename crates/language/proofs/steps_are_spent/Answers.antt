@@ -1,5 +1,0 @@
-use Rattle.language.proofs.FileSteps.{steps_are_spent}
-use Rattle.language.proofs.steps_are_spent.Goals as goal
-
-pub returns : goal.returns
-returns c = steps_are_spent

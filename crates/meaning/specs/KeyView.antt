@@ -1,9 +1,0 @@
--- What a key in memory is to the definitions.
-use Rattle.std.specs.Prelude.{List, ◌∷◌, []}
-use Rattle.meaning.specs.declared.key.Part.{Part}
-use Rattle.meaning.specs.declared.key.Parts.{Parts}
-use Rattle.meaning.specs.declared.key.Parts.TheVariants as parts
-
-abbrev pub parts_of : Parts → List Part
-parts_of (parts.One part) = part ∷ []
-parts_of (parts.Several all) = all.items

@@ -1,6 +1,0 @@
-use Rattle.std.proofs.Common.{◌≡◌, take}
-use Rattle.names.specs.Places.{NoneSo, has_slot}
-use Rattle.names.proofs.blocks.bind_first.Given as goal
-
-abbrev pub invariant-loop-i : goal.invariant-loop-i
-invariant-loop-i l = (l.blocks ≡ l.initial.blocks) × NoneSo (has_slot l.x) (take l.i l.blocks.items)

@@ -1,7 +1,0 @@
-use Rattle.std.proofs.Common.{◌≡◌, take, true}
-use Rattle.names.specs.Once.{differ}
-use Rattle.names.specs.Newest.{kept_names}
-use Rattle.names.proofs.keeping.index_of.Given as goal
-
-abbrev pub invariant-loop-k : goal.invariant-loop-k
-invariant-loop-k l = (l.names.keys ≡ kept_names (take l.k-index l.kept)) × (differ (kept_names (take l.k-index l.kept)) ≡ true)

@@ -1,7 +1,0 @@
-use Rattle.std.proofs.Common.{◌≡◌, take}
-use Rattle.language.specs.Environment.{values_named}
-use Rattle.names.specs.Newest.{newest_first}
-use Rattle.names.proofs.keeping.newest_named.Given as goal
-
-abbrev pub invariant-loop-k : goal.invariant-loop-k
-invariant-loop-k l = l.newest ≡ values_named l.name (newest_first (take l.k-index l.kept))

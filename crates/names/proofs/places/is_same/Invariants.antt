@@ -1,6 +1,0 @@
-use Rattle.std.proofs.Common.{◌≡◌, drop}
-use Rattle.meaning.specs.Comparing.{same_text}
-use Rattle.names.proofs.places.is_same.Given as goal
-
-abbrev pub invariant-loop-i : goal.invariant-loop-i
-invariant-loop-i l = same_text (drop l.i l.a) (drop l.i l.b) ≡ same_text l.x l.y

@@ -1,8 +1,0 @@
--- Names each of which stands once.
-use Rattle.std.specs.Prelude.{ℕ, List, [], ◌∷◌}
-pub use Rattle.tree.specs.Bindings.{differ}
-use Rattle.names.specs.declared.state.Slot.{Slot}
-
-abbrev pub names_in : List Slot → List (List ℕ)
-names_in [] = []
-names_in (s ∷ ss) = s.name ∷ names_in ss

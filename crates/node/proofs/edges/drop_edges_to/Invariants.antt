@@ -1,0 +1,16 @@
+use Rattle.std.proofs.Common.{◌≡◌, Some, take}
+use Rattle.engine_semantics.specs.Value.{In, IsMember}
+use Rattle.keys.specs.declared.key.Key.{Key}
+use Rattle.node_table.specs.Tables.{key_at}
+use Rattle.node_table.specs.Flats.{members_in}
+use Rattle.node.specs.Records.{KeepsRecords, numbers_of}
+use Rattle.node.specs.Writes.{groups_at}
+use Rattle.node.specs.Graphs.{records_of}
+use Rattle.node.specs.Edges.{HasCut}
+use Rattle.node.proofs.edges.drop_edges_to.Given as goal
+
+abbrev pub invariant-loop-member : goal.invariant-loop-member
+invariant-loop-member l = record {
+  cut : (k : Key) → key_at l.fn.records l.user ≡ Some k → HasCut (numbers_of l.fn.records) (numbers_of l.records) l.user (λ j. In j (members_in l.fn.records (take l.member-index l.members))) (λ j. IsMember j (groups_at (records_of l.fn.records k)));
+  same : KeepsRecords l.fn.records l.records;
+}

@@ -1,9 +1,0 @@
-use Rattle.std.proofs.Common.{◌≡◌, ◌++◌, take}
-use Rattle.numbered.specs.Flats.{items_of, ends, sizes}
-use Rattle.numbered.proofs.flat.push_ends.Given as goal
-
-abbrev pub invariant-loop-group : goal.invariant-loop-group
-invariant-loop-group l = record {
-  ends : l.words.items ≡ l.fn.words.items ++ ends 0 (items_of (take l.group-index l.groups));
-  end : l.end ≡ sizes (items_of (take l.group-index l.groups));
-}

@@ -1,9 +1,0 @@
-use Rattle.std.proofs.Common.{drop}
-use Rattle.keys.specs.declared.key.Key.{Key}
-use Rattle.evaluation.specs.Value.{In}
-use Rattle.node.specs.Graphs.{record_at}
-use Rattle.open_nodes.specs.Nodes.{IsClean}
-use Rattle.open_nodes.proofs.members.last_unsettled.Given as goal
-
-abbrev pub invariant-loop-i : goal.invariant-loop-i
-invariant-loop-i l = (j : Key) → In j (drop l.i l.keys) → IsClean (record_at l.graph) j

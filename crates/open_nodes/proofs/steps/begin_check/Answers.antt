@@ -1,8 +1,0 @@
-use Rattle.std.proofs.Common.{subst}
-use Rattle.keys.specs.declared.key.Key.{Key}
-use Rattle.open_nodes.specs.Steps.{HasEntered}
-use Rattle.open_nodes.specs.declared.table.Phase.TheVariants as phase
-use Rattle.open_nodes.proofs.steps.begin_check.Goals as goal
-
-pub returns-clause-entered : goal.returns-clause-entered
-returns-clause-entered c = subst (λ (k : Key). HasEntered c.args.table.now.nodes c.enter.new.nodes k (phase.Checking 0)) c.in_ok-share.ensures (subst (λ x. HasEntered x c.enter.new.nodes c.in_ok-share.field-0 (phase.Checking 0)) c.look_again.ensures.nodes c.in_ok-enter.ensures)

@@ -1,5 +1,0 @@
-use Rattle.std.proofs.Common.{refl}
-use Rattle.open_nodes.proofs.steps.enter.Goals as goal
-
-pub returns : goal.returns
-returns c = (_, c.in_ok-insert.ensures.updates, c.new.ensures.items, c.new-2.ensures.items, refl)

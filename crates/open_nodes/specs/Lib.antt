@@ -1,6 +1,0 @@
-pub mod Nodes
-pub mod Members
-pub mod Truths
-pub mod Steps
-pub mod TurnCounts
-pub mod Ready

@@ -1,6 +1,0 @@
-use Rattle.std.proofs.Common.{◌∙◌}
-use Rattle.operations.proofs.Parts.{part_found}
-use Rattle.operations.proofs.membership.is_part.Goals as goal
-
-pub returns : goal.returns
-returns c = c.is_some.ensures ∙ part_found c.args.part.now c.args.whole.now c.find.result c.find.ensures

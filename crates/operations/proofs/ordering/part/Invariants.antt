@@ -1,9 +1,0 @@
-use Rattle.std.proofs.Common.{◌≡◌, drop, map}
-use Rattle.meaning.specs.Comparing.{equal, parting}
-use Rattle.heap.specs.View.{object_in}
-use Rattle.operations.proofs.ordering.part.Given as goal
-
-abbrev pub invariant-loop-i : goal.invariant-loop-i
-invariant-loop-i l =
-    let eq = equal l.left (map object_in l.objects) in
-    parting eq (drop l.i l.xs) (drop l.i l.ys) l.steps ≡ parting eq l.xs l.ys l.fn.steps

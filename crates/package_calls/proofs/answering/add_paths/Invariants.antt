@@ -1,6 +1,0 @@
-use Rattle.std.proofs.Common.{◌≡◌, ◌++◌, drop}
-use Rattle.package_calls.specs.GlobResults.{kept_of}
-use Rattle.package_calls.proofs.answering.add_paths.Given as goal
-
-abbrev pub invariant-loop-path : goal.invariant-loop-path
-invariant-loop-path l = l.all.items ++ kept_of l.excludes (drop l.path-index l.paths) ≡ l.fn.all.items ++ kept_of l.excludes l.paths

@@ -1,7 +1,0 @@
-use Rattle.std.proofs.Common.{◌≡◌, drop}
-use Rattle.language.specs.Globs.{answer_to}
-use Rattle.package_calls.specs.View.{answers_of}
-use Rattle.package_calls.proofs.answers.answer_to.Given as goal
-
-abbrev pub invariant-loop-answer : goal.invariant-loop-answer
-invariant-loop-answer l = answer_to l.question (answers_of (drop l.answer-index l.answers)) ≡ answer_to l.question (answers_of l.answers)

@@ -1,8 +1,0 @@
-use Rattle.std.proofs.Common.{◌≡◌, ◌++◌, [], drop, length, List, ℕ, refl, sym, ap, ◌∙◌, arith}
-use Rattle.std.specs.Prelude.{zip}
-use Rattle.meaning.specs.declared.val.Val.{Val}
-use Rattle.package_calls.proofs.ArgumentsByName.{all_named}
-use Rattle.package_calls.proofs.arguments.named_part.Goals as goal
-
-pub returns : goal.returns
-returns c = all_named c.args.values.now c.args.names.now c.loop-i.i c.loop-i.all.items (omega arith) c.loop-i.invariant

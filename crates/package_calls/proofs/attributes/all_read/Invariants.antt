@@ -1,9 +1,0 @@
-use Rattle.std.proofs.Common.{◌≡◌, ◌++◌, drop, map}
-use Rattle.meaning.specs.Outcome.{then_checked, good}
-use Rattle.heap.specs.View.{store_of}
-use Rattle.names.specs.View.{attributed_of}
-use Rattle.package_calls.specs.RuleArguments.{read_fields}
-use Rattle.package_calls.proofs.attributes.all_read.Given as goal
-
-abbrev pub invariant-loop-field : goal.invariant-loop-field
-invariant-loop-field l = then_checked (read_fields l.package_name (drop l.field-index l.fields) l.slots (store_of l.heap)) (λ more. good (map attributed_of l.all.items ++ more)) ≡ read_fields l.package_name l.fields l.slots (store_of l.heap)

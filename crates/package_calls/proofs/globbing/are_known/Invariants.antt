@@ -1,6 +1,0 @@
-use Rattle.std.proofs.Common.{◌≡◌, drop}
-use Rattle.language.specs.Globs.{are_known, parameters}
-use Rattle.package_calls.proofs.globbing.are_known.Given as goal
-
-abbrev pub invariant-loop-n : goal.invariant-loop-n
-invariant-loop-n l = are_known (drop l.n-index l.ns) parameters ≡ are_known l.ns parameters

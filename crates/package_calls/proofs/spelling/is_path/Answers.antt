@@ -1,6 +1,0 @@
-use Rattle.std.proofs.Common.{sym}
-use Rattle.package_calls.proofs.AsciiTexts.{no_path}
-use Rattle.package_calls.proofs.spelling.is_path.Goals as goal
-
-pub returns-in-Err : goal.returns-in-Err
-returns-in-Err c = sym (no_path c.args.bytes.now c.in-Err.ensures.cases.0)

@@ -1,5 +1,0 @@
-use Rattle.pattern.proofs.Directories.{held_with_directories}
-use Rattle.pattern.proofs.globs.directories_are_held.Goals as goal
-
-pub returns : goal.returns
-returns c = held_with_directories

@@ -1,6 +1,0 @@
-use denote.Param.Send.{sendable}
-use Rattle.pool.proofs.evaluations.scoped.Goals as goal
-
-pub scoped-requires : goal.scoped-requires
-scoped-requires g c = let a = c.type_bounds.send-R in let b = c.type_bounds.send-R-State in let d = c.type_bounds.sync-T in
-    record { at = λ x. (c.requires.host, (c.requires.hands, (c.requires.some, (c.requires.places, (c.requires.rests, (c.requires.truth, (search sendable, search sendable, search sendable))))))) }

@@ -1,6 +1,0 @@
-use Rattle.std.proofs.Common.{take}
-use Rattle.evaluation.specs.Value.{In}
-use Rattle.round.proofs.loops.from_key.Given as goal
-
-abbrev pub invariant-loop-place : goal.invariant-loop-place
-invariant-loop-place l = In l.key (take l.place l.path) → ⊥

@@ -1,6 +1,0 @@
-use Rattle.std.proofs.Common.{◌≡◌, ◌+◌, ◌≤◌, ◌<◌, ℕ, get_or, drop}
-use Rattle.tokens.specs.Reading.{foreign}
-use Rattle.tokens.proofs.lexer.foreign.Given as goal
-
-abbrev pub invariant-loop-b : goal.invariant-loop-b
-invariant-loop-b l = (foreign l.line (drop l.b-index l.text) ≡ foreign 1 l.text) × (l.line ≤ l.b-index + 1) × ((k : ℕ) → k < l.b-index → get_or l.text k 0 < 128)

@@ -1,7 +1,0 @@
--- Strings with escapes.
-use Rattle.std.specs.Prelude.{ℕ, List, [], ◌∷◌, Bool, false, ◌==◌, ◌||◌}
-
--- a backslash stands in the written text
-abbrev pub has_escape : List ℕ → Bool
-has_escape [] = false
-has_escape (b ∷ bs) = b == 92 || has_escape bs

@@ -1,0 +1,23 @@
+use Rattle.std.proofs.Common.{None, map, subst}
+use Rattle.values_heap.specs.declared.objects.Spot.TheVariants as s
+use Rattle.values_heap.specs.Objects.{object_of}
+use Rattle.values_heap.specs.View.{object_in}
+use Rattle.values_heap.proofs.Places.{Finds, seen_now, lent_there_now, put_now, put_nothing}
+use Rattle.values_heap.proofs.objects.Objects.put.Goals as goal
+
+pub returns-in-Own-clause-put : goal.returns-in-Own-clause-put
+returns-in-Own-clause-put c =
+    let fields = c.self.inside in
+    put_now fields.own.items c.put_own.new.objects.items fields.ranges.items c.as_slice.result.now fields.from fields.lent c.args.place c.in-Own.i (object_of c.args.object) c.args.self.now c.self.view_is c.self.invariant c.as_slice.ensures.value c.in-Own.ensures.number c.put_own.ensures.put
+
+pub returns-in-Lent-Some-default-clause-lent : goal.returns-in-Lent-Some-default-clause-lent
+returns-in-Lent-Some-default-clause-lent c =
+    let fields = c.self.inside in
+    let case = c.in-Lent-Some-default in
+    lent_there_now fields.own.items fields.ranges.items c.as_slice.result.now fields.from fields.lent c.args.place case._base case._object c.args.self.now c.self.view_is c.self.invariant c.as_slice.ensures.value (subst (λ f. Finds c.as_slice.result.now fields.from fields.lent c.args.place (s.Lent f case._base)) case.object-is case.ensures.found)
+
+pub returns-in-Lent-None-default-clause-put : goal.returns-in-Lent-None-default-clause-put
+returns-in-Lent-None-default-clause-put c =
+    let fields = c.self.inside in
+    let case = c.in-Lent-None-default in
+    put_nothing (map object_in c.args.self.now) c.args.place (object_of c.args.object) (seen_now fields.own.items fields.ranges.items c.as_slice.result.now fields.from fields.lent c.args.place (s.Lent None case._base) c.args.self.now c.self.view_is c.self.invariant c.as_slice.ensures.value (subst (λ f. Finds c.as_slice.result.now fields.from fields.lent c.args.place (s.Lent f case._base)) case.object-is case.ensures.found))

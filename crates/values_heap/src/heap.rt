@@ -1,0 +1,277 @@
+//! The heap.
+ghost use Rattle.std.specs.Prelude.{◌≡◌, [], length, option_map, IfOk, OnOk, OnErr, ◌+◌, ◌*◌, ◌-◌, ◌≤◌, nat_le};
+ghost use Rattle.values_semantics.specs.Outcome.{gives};
+ghost use Rattle.values_semantics.specs.Heap.{at, puts, makes, makes_text, makes_list, makes_tuple, makes_dict};
+ghost use Rattle.values_heap.specs.Objects.{object_of};
+ghost use Rattle.values_heap.specs.Looks.{seen_object};
+ghost use Rattle.std.specs.Arc.{arc_value};
+ghost use Rattle.values_heap.specs.View.{store_of, lends, Says};
+ghost use Rattle.values_heap.specs.Reclamation.{IsGone, IsLent, IsKept};
+ghost use Rattle.values_heap.specs.MemoryUse.{most_held, object_bytes, place_bytes, Counted};
+
+use crate::halt::Halt;
+use crate::object::{ENTRY, MEMBER, Object, shape_of, size_of};
+use crate::object_ref::ObjectRef;
+use crate::objects::Objects;
+use base_types::Memory;
+use indexmap::IndexMap;
+use std::alloc::Global;
+use std::sync::Arc;
+use values_frozen_objects::FrozenObjects;
+use values_semantics::{Bytes, Entry, Key, Val, faults};
+
+/// The most bytes of a string, and members of a list, tuple or dictionary.
+pub const MAX_LENGTH: usize = 65536;
+
+/// The containers that a walk may enter inside one another.
+pub const MAX_DEPTH: u32 = 64;
+
+/// The most bytes that the objects of one evaluation may take together, with the copies that loops go over. An object that
+/// has been given back does not count. Texts that are shared with a file or a module count too.
+pub const MAX_BYTES: u64 = 268_435_456;
+
+// So many bytes are held before it is first looked for objects that are reached no more.
+const FIRST_FULL: u64 = 8_388_608;
+
+/// What the values of an evaluation stand on: the objects, the places of those that are iterated, and the steps that
+/// are left.
+#[derive(Drop)]
+pub struct Heap {
+    pub alloc: Global,
+    pub objects: Objects,
+    pub iterated: Vec<usize>,
+    pub steps: u64,
+    held: u64,
+    // So many bytes are enough to look for objects that are reached no more.
+    full_at: u64,
+}
+
+impl Heap {
+    /// Makes an empty heap.
+    pub fn new(alloc: Global, steps: u64) -> Heap
+        ensures store { store_of result ≡ record { heap = []; iterated = []; steps = steps } }
+        ensures held { result.held ≡ 0 }
+    {
+        Heap {
+            alloc,
+            objects: Objects::new(alloc),
+            iterated: Vec::new(alloc),
+            steps,
+            held: 0,
+            full_at: FIRST_FULL,
+        }
+    }
+
+    /// Returns the object at a place, if one stands there, or `Memory` if it has been given back.
+    #[inline(always)]
+    pub fn object(&self, place: usize) -> Result<Option<ObjectRef<'_>>, Memory>
+        ensures found { IfOk result (λ found. at place (store_of self.now) ≡ option_map seen_object
+            found) }
+        ensures gone { OnErr result (IsGone self.now.objects place) }
+    {
+        self.objects.object_ref(place)
+    }
+
+    /// Takes the object at a place, to be changed and then put there again. Until then it counts as given back. Returns
+    /// `Memory` if it has been given back before, or if it is lent, which no program changes.
+    #[inline(always)]
+    pub fn take(&mut self, place: usize) -> Result<Option<Object>, Memory>
+        ensures same { store_of self.new ≡ store_of self.old }
+        ensures taken { IfOk result (λ found. at place (store_of self.old) ≡ option_map object_of
+            found) }
+        ensures kept { OnErr result (IsKept self.old.objects place) }
+        ensures held { self.new.held ≡ self.old.held }
+    {
+        self.objects.take(place)
+    }
+
+    /// Puts another object at a place, if one stands there. The bytes that it takes more are counted by `charge_members`
+    /// and `charge_entry`. Returns `Memory`, and puts nothing, if a lent one stands there, which no program changes.
+    #[inline(always)]
+    pub fn put(&mut self, place: usize, object: Object) -> Result<(), Memory>
+        ensures put { OnOk result (puts place (object_of object) (store_of self.old) ≡ gives tt
+            (store_of self.new)) }
+        ensures same { OnErr result (store_of self.new ≡ store_of self.old) }
+        ensures lent { OnErr result (IsLent self.old.objects place) }
+        ensures held { self.new.held ≡ self.old.held }
+    {
+        self.objects.put(place, object)
+    }
+
+    /// Returns the bytes that the objects and the copies that loops go over count for. An object that has been given
+    /// back does not count.
+    pub fn allocated_bytes(&self) -> u64
+        ensures { result ≡ self.now.held }
+    {
+        self.held
+    }
+
+    // Counts bytes that the objects are about to take. Returns `Memory` if they would take more than `MAX_BYTES`.
+    #[inline(always)]
+    fn charge(&mut self, bytes: u128) -> Result<(), Halt>
+        ensures same { store_of self.new ≡ store_of self.old }
+        ensures counted { Counted bytes self.old.held result self.new.held }
+    {
+        let all = (self.held as u128).saturating_add(bytes);
+        if all > MAX_BYTES as u128 {
+            return Err(Halt::Memory(Memory::over_the_heap_limit(all)));
+        }
+        self.held = all as u64;
+        Ok(())
+    }
+
+    /// Returns whether it is time to give back the objects that are reached no more.
+    pub fn needs_collection(&self) -> bool
+        ensures { result ≡ nat_le self.now.full_at self.now.held }
+    {
+        self.held >= self.full_at
+    }
+
+    /// Puts off the next time to give back until twice as many bytes are held as now, and at least `FIRST_FULL`.
+    pub(crate) fn set_threshold(&mut self)
+        ensures same { store_of self.new ≡ store_of self.old }
+        ensures held { self.new.held ≡ self.old.held }
+    {
+        self.full_at = self.held.saturating_mul(2).max(FIRST_FULL);
+    }
+
+    /// Counts members that a list is about to get, 16 bytes each. Returns `Memory` if the objects would take more than
+    /// `MAX_BYTES` bytes.
+    #[inline(always)]
+    pub fn charge_members(&mut self, number: usize) -> Result<(), Halt>
+        ensures same { store_of self.new ≡ store_of self.old }
+        ensures counted { Counted (number * 16) self.old.held result self.new.held }
+    {
+        self.charge(number as u128 * MEMBER)
+    }
+
+    /// Counts an entry that a dictionary is about to get, 96 bytes, as `charge_members` does.
+    #[inline(always)]
+    pub fn charge_entry(&mut self) -> Result<(), Halt>
+        ensures same { store_of self.new ≡ store_of self.old }
+        ensures counted { Counted 96 self.old.held result self.new.held }
+    {
+        self.charge(ENTRY)
+    }
+
+    /// Counts the copy that a loop goes over of what stands at a place, as `charge_members` does.
+    pub fn charge_copy(&mut self, place: usize) -> Result<(), Halt>
+        ensures same { store_of self.new ≡ store_of self.old }
+        ensures counted { Counted (place_bytes place (store_of self.old)) self.old.held result
+            self.new.held }
+    {
+        let bytes = self.size_at(place);
+        self.charge(bytes)
+    }
+
+    /// Counts the copy that a loop went over no more. The object at the place must have kept its size since
+    /// `charge_copy`; else the count is wrong, and nothing but the count.
+    pub fn refund_copy(&mut self, place: usize)
+        ensures same { store_of self.new ≡ store_of self.old }
+        ensures counted { self.new.held ≡ self.old.held - place_bytes place (store_of self.old) }
+    {
+        let bytes = self.size_at(place);
+        self.release(bytes);
+    }
+
+    // Counts bytes no more.
+    pub(crate) fn release(&mut self, bytes: u128)
+        ensures same { store_of self.new ≡ store_of self.old }
+        ensures counted { self.new.held ≡ self.old.held - bytes }
+        ensures kept { self.new.objects ≡ self.old.objects }
+    {
+        self.held = (self.held as u128).saturating_sub(bytes) as u64;
+    }
+
+    // Returns the bytes that the object at a place counts for.
+    fn size_at(&self, place: usize) -> u128
+        ensures { result ≡ place_bytes place (store_of self.now) }
+    {
+        self.objects.size_at(place)
+    }
+
+    /// Makes an object. Returns `Memory` also if the objects would take more than `MAX_BYTES` bytes.
+    pub fn make(&mut self, object: Object) -> Result<Val, Halt>
+        ensures held { OnOk result (self.new.held ≡ self.old.held + object_bytes
+            (object_of object)) }
+        ensures within { OnOk result (self.new.held ≤ most_held) }
+        ensures says { Says (makes (object_of object) (store_of self.old)) result
+            (store_of self.new) }
+    {
+        self.charge(size_of(shape_of(&object)))?;
+        let place = self.objects.len();
+        self.objects.push(object)?;
+        Ok(Val::At(place))
+    }
+
+    /// Lends objects to the heap: they stand behind all others, each value in them moved by as many. It takes as long for
+    /// many as for few. They count for nothing, since they are shared. Returns the place of the first.
+    ///
+    /// # Errors
+    ///
+    /// Returns `Memory`, and lends nothing, if an allocation fails, or for a place of more than 32 bits.
+    pub fn attach(&mut self, objects: &Arc<FrozenObjects, Global>) -> Result<u32, Memory>
+        ensures first { IfOk result (λ first. first ≡ length (store_of self.old).heap) }
+        ensures lent { OnOk result
+            (store_of self.new ≡ lends (arc_value objects.now) (store_of self.old)) }
+        ensures same { OnErr result (store_of self.new ≡ store_of self.old) }
+        ensures held { self.new.held ≡ self.old.held }
+    {
+        let wanted = self.objects.len() as u128;
+        let Ok(first) = u32::try_from(wanted) else {
+            return Err(Memory::no_number_left(wanted));
+        };
+        self.objects.attach(objects)?;
+        Ok(first)
+    }
+
+    /// Makes a string, or returns fault 13.
+    pub fn make_text(&mut self, bytes: Vec<u8>) -> Result<Val, Halt>
+        ensures { Says (makes_text bytes.items (store_of self.old)) result (store_of self.new) }
+    {
+        if bytes.len() > MAX_LENGTH {
+            return Err(Halt::Code(faults::TOO_LARGE));
+        }
+        let text = Bytes::new(self.alloc, bytes)?;
+        let made = self.make(Object::Text(text))?;
+        Ok(made)
+    }
+
+    /// Makes a list, or returns fault 13.
+    pub fn make_list(&mut self, members: Vec<Val>) -> Result<Val, Halt>
+        ensures { Says (makes_list members.items (store_of self.old)) result (store_of self.new) }
+    {
+        if members.len() > MAX_LENGTH {
+            return Err(Halt::Code(faults::TOO_LARGE));
+        }
+        let made = self.make(Object::List {
+            members,
+            frozen: false,
+        })?;
+        Ok(made)
+    }
+
+    /// Makes a tuple, or returns fault 13.
+    pub fn make_tuple(&mut self, members: Vec<Val>) -> Result<Val, Halt>
+        ensures { Says (makes_tuple members.items (store_of self.old)) result (store_of self.new) }
+    {
+        if members.len() > MAX_LENGTH {
+            return Err(Halt::Code(faults::TOO_LARGE));
+        }
+        let made = self.make(Object::Tuple(members))?;
+        Ok(made)
+    }
+
+    /// Makes a dictionary, or returns fault 13.
+    pub fn make_dict(&mut self, entries: IndexMap<Key, Entry>) -> Result<Val, Halt>
+        ensures { Says (makes_dict entries.entries (store_of self.old)) result (store_of self.new) }
+    {
+        if entries.len() > MAX_LENGTH {
+            return Err(Halt::Code(faults::TOO_LARGE));
+        }
+        let entries = Box::new(self.alloc, entries)?;
+        let frozen = false;
+        let made = self.make(Object::Dict { entries, frozen })?;
+        Ok(made)
+    }
+}

@@ -1,0 +1,84 @@
+//! Objects, and the bytes that they count for.
+ghost use Rattle.std.specs.Prelude.{◌≡◌};
+ghost use Rattle.values_frozen_objects.specs.Objects.{frozen_obj};
+ghost use Rattle.values_heap.specs.Objects.{object_of};
+ghost use Rattle.values_heap.specs.MemoryUse.{object_bytes, shape_bytes};
+
+use base_types::Text;
+use indexmap::IndexMap;
+use values_frozen_objects::FrozenObject;
+use values_semantics::{Bytes, Entry, Key, Val};
+
+// The bytes that count for an object whatever it has, for a member of a list or tuple, and for an entry of a
+// dictionary.
+const OBJECT: u128 = 64;
+
+pub(crate) const MEMBER: u128 = 16;
+
+pub(crate) const ENTRY: u128 = 96;
+
+/// An object of the heap.
+#[derive(Drop)]
+pub enum Object {
+    Text(Bytes),
+    List {
+        members: Vec<Val>,
+        frozen: bool,
+    },
+    Tuple(Vec<Val>),
+    /// Boxed, so that the many other objects are small.
+    Dict {
+        entries: Box<IndexMap<Key, Entry>>,
+        frozen: bool,
+    },
+    /// A function of a file: the file's label, and the name.
+    Function(Text, Text),
+}
+
+/// What the bytes of an object depend on: how many bytes, members or entries it has.
+#[derive(Clone, Copy)]
+pub enum Shape {
+    Bytes(usize),
+    Members(usize),
+    Entries(usize),
+    Plain,
+}
+
+/// Returns the shape of an object, on which its bytes depend.
+pub fn shape_of(object: &Object) -> Shape
+    ensures { shape_bytes result ≡ object_bytes (object_of object.now) }
+{
+    match object {
+        Object::Text(bytes) => Shape::Bytes(bytes.as_slice().len()),
+        Object::List { members, .. } => Shape::Members(members.len()),
+        Object::Tuple(members) => Shape::Members(members.len()),
+        Object::Dict { entries, .. } => Shape::Entries(entries.len()),
+        Object::Function(_, _) => Shape::Plain,
+    }
+}
+
+/// Returns the shape of a frozen object.
+pub fn frozen_shape(object: &FrozenObject) -> Shape
+    ensures { shape_bytes result ≡ object_bytes (frozen_obj object.now) }
+{
+    match object {
+        FrozenObject::Text(bytes) => Shape::Bytes(bytes.as_slice().len()),
+        FrozenObject::List(members) => Shape::Members(members.len()),
+        FrozenObject::Tuple(members) => Shape::Members(members.len()),
+        FrozenObject::Dict(entries) => Shape::Entries(entries.len()),
+        FrozenObject::Function(_, _) => Shape::Plain,
+    }
+}
+
+/// Returns the bytes that an object of a shape counts for.
+pub fn size_of(shape: Shape) -> u128
+    ensures { result ≡ shape_bytes shape }
+{
+    let own = match shape {
+        Shape::Bytes(n) => n as u128,
+        Shape::Members(n) => n as u128 * MEMBER,
+        Shape::Entries(n) => n as u128 * ENTRY,
+        Shape::Plain => 0,
+    };
+    own + OBJECT
+}

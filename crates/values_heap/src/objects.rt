@@ -1,0 +1,412 @@
+//! The objects of a heap: its own, and among them the ranges that are attached to it.
+ghost use Rattle.std.specs.Prelude.{◌≡◌, ◌∷◌, [], ◌++◌, ◌+◌, ◌<◌, ◌^◌, ℕ, List, map, length, option_map, slice_get, slice_set, Some, true, false, IfOk, OnOk, OnErr};
+ghost use Rattle.std.specs.Arc.{arc_value};
+ghost use Rattle.values_heap.specs.Looks.{seen_object};
+ghost use Rattle.values_heap.specs.MemoryUse.{found_bytes};
+ghost use Rattle.values_heap.specs.Objects.{object_of};
+ghost use Rattle.values_heap.specs.Reclamation.{IsGone, IsLent, IsKept, bytes_at, standing_bytes};
+ghost use Rattle.values_heap.specs.Standings.{Standing, Begun, own, has_gone, standing_of, lent_at, laid, InOrder, where_is, found_there, own_number, range_standings};
+ghost use Rattle.values_heap.specs.Sought.{sought, sought_number};
+ghost use Rattle.values_heap.specs.View.{object_in};
+ghost use Rattle.values_heap.specs.Own.{written_object};
+
+use crate::heap_object::HeapObject;
+use crate::object::{Object, frozen_shape, size_of};
+use crate::object_ref::{ObjectRef, show, show_lent};
+use base_types::Memory;
+use std::alloc::Global;
+use std::marker::Model;
+use std::sync::Arc;
+use values_frozen_objects::{FrozenObject, FrozenObjects};
+
+// Objects that are attached: the place of the first, the place after the last, how many attached objects there are up
+// to that place, and the objects, whose places count from the first of them.
+#[derive(Drop)]
+struct Range {
+    start: u32,
+    end: u32,
+    through: u32,
+    objects: Arc<FrozenObjects, Global>,
+}
+
+/// What is on a heap. Its own objects are in one list. An attached range has the places after all that was there
+/// before, and is shared. A contract sees what is at each place.
+pub struct Objects {
+    own: Vec<HeapObject>,
+    ranges: Vec<Range>,
+    // The place after the last range, and how many objects are attached.
+    from: u32,
+    lent: u32,
+}
+
+impl Drop for Objects {
+    fn drop(self) {
+        let Objects {
+            own: _,
+            ranges: _,
+            from: _,
+            lent: _,
+        } = self;
+    }
+}
+
+impl Model for Objects {
+    ghost use Rattle.std.specs.Prelude.{List, map, length};
+    ghost use Rattle.values_heap.specs.Standings.{Standing, standing_of, laid, InOrder};
+
+    ghost Value = { List Standing };
+
+    ghost view = { λ o. laid o.ranges.items (map standing_of o.own.items) };
+
+    ghost invariant = { λ o. InOrder o.ranges.items 0 0 (length o.own.items) o.from o.lent };
+}
+
+// What is at a place: an own object, by its number among these, or an attached one with the place at which its range
+// begins.
+enum Spot<'a> {
+    Own(usize),
+    Lent {
+        object: Option<&'a FrozenObject>,
+        base: u32,
+    },
+}
+
+// Returns how many ranges begin at a place or before it, by a binary search of the ranges, which are in order.
+fn count_begun(ranges: &[Range], place: usize) -> usize
+    ensures { Begun ranges.now place result }
+{
+    let mut low = 0;
+    let mut high = ranges.len();
+    'halving: while low < high {
+        let middle = low + (high - low) / 2;
+        if ranges[middle].start as usize <= place {
+            low = middle + 1;
+            continue 'halving;
+        }
+        high = middle;
+    }
+    low
+}
+
+// Finds what is at a place, in the last range that begins there or before, or after it.
+fn seek_in<'a>(ranges: &'a [Range], place: usize) -> Spot<'a>
+    ensures number { (number from lent : ℕ) → InOrder ranges.now 0 0 number from lent →
+        sought_number result ≡ own_number (where_is ranges.now 0 place) }
+    ensures found { (number from lent : ℕ) → InOrder ranges.now 0 0 number from lent → (objects :
+        List Standing) → sought objects result ≡ found_there range_standings objects (where_is
+        ranges.now 0 place) }
+{
+    let begun = count_begun(ranges, place);
+    if begun == 0 {
+        return Spot::Own(place);
+    }
+    let range = &ranges[begun - 1];
+    if place >= range.end as usize {
+        return Spot::Own(place.saturating_sub(range.through as usize));
+    }
+    let base = range.start;
+    let object = range.objects.get(place - base as usize);
+    Spot::Lent { object, base }
+}
+
+// Finds what is at a place. This takes one comparison for a place after the last range.
+#[inline(always)]
+#[tactic(auto, using(crate::proofs::Laid::where_last))]
+fn seek<'a>(ranges: &'a [Range], from: u32, lent: u32, place: usize) -> Spot<'a>
+    ensures number { (number : ℕ) → InOrder ranges.now 0 0 number from lent → sought_number result
+        ≡ own_number (where_is ranges.now 0 place) }
+    ensures found { (number : ℕ) → InOrder ranges.now 0 0 number from lent → (objects : List
+        Standing) → sought objects result ≡ found_there range_standings objects (where_is
+        ranges.now 0 place) }
+{
+    if place >= from as usize {
+        return Spot::Own(place.saturating_sub(lent as usize));
+    }
+    seek_in(ranges, place)
+}
+
+// Returns the own object with a number, if there is one, or `Memory` if it has been freed.
+#[inline(always)]
+fn look_own(objects: &[HeapObject], i: usize) -> Result<Option<ObjectRef<'_>>, Memory>
+    ensures found { IfOk result (λ found. option_map written_object (slice_get objects.now i) ≡
+        option_map seen_object found) }
+    ensures gone { OnErr result (option_map has_gone (slice_get objects.now i) ≡ Some true) }
+{
+    match objects.get(i) {
+        Some(found) => {
+            let object = found.object()?;
+            Ok(Some(show(object)))
+        }
+        None => Ok(None),
+    }
+}
+
+// Takes the own object with a number, if there is one, or returns `Memory` if it has been freed.
+#[inline(always)]
+fn take_own(objects: &mut Vec<HeapObject>, i: usize) -> Result<Option<Object>, Memory>
+    ensures same { map written_object objects.new.items ≡ map written_object objects.old.items }
+    ensures number { length objects.new.items ≡ length objects.old.items }
+    ensures taken { IfOk result (λ found. option_map written_object (slice_get objects.old.items
+        i) ≡ option_map object_of found) }
+    ensures gone { OnErr result (option_map has_gone (slice_get objects.old.items i) ≡ Some true) }
+{
+    match objects.get_mut(i) {
+        Some(found) => match found.take() {
+            Ok(object) => Ok(Some(object)),
+            Err(memory) => Err(memory),
+        },
+        None => Ok(None),
+    }
+}
+
+// Puts another object in the place of the own one with a number, if there is one.
+#[inline(always)]
+fn put_own(objects: &mut Vec<HeapObject>, i: usize, object: Object)
+    ensures put { map written_object objects.new.items ≡ slice_set (map written_object
+        objects.old.items) i (object_of object) }
+    ensures number { length objects.new.items ≡ length objects.old.items }
+{
+    if let Some(found) = objects.get_mut(i) {
+        found.write(object);
+    }
+}
+
+impl Objects {
+    /// Makes what is on an empty heap.
+    pub fn new(alloc: Global) -> Objects
+        ensures { result ≡ [] }
+    {
+        Objects {
+            own: Vec::new(alloc),
+            ranges: Vec::new(alloc),
+            from: 0,
+            lent: 0,
+        }
+    }
+
+    /// Returns how many objects there are, own and attached.
+    #[tactic(auto, using(crate::proofs::Places::all_places))]
+    pub fn len(&self) -> usize
+        ensures { result ≡ length self.now }
+    {
+        self.own.len() + self.lent as usize
+    }
+
+    /// Returns the object at a place, if one is there, or `Memory` if it has been freed.
+    #[inline(always)]
+    pub fn object_ref(&self, place: usize) -> Result<Option<ObjectRef<'_>>, Memory>
+        ensures found { IfOk result (λ found. slice_get (map object_in self.now) place ≡
+            option_map seen_object found) }
+        ensures gone { OnErr result (IsGone self.now place) }
+    {
+        match seek(self.ranges.as_slice(), self.from, self.lent, place) {
+            Spot::Own(i) => look_own(self.own.as_slice(), i),
+            Spot::Lent {
+                object: Some(object),
+                base,
+            } => Ok(Some(show_lent(object, base))),
+            Spot::Lent {
+                object: None,
+                base: _base,
+            } => Ok(None),
+        }
+    }
+
+    /// Takes the object at a place, to be changed and then put there again. Until then it counts as freed. Returns
+    /// `Memory` if it has been freed before, and for an attached object, since no program changes one.
+    #[inline(always)]
+    pub fn take(&mut self, place: usize) -> Result<Option<Object>, Memory>
+        ensures same { map object_in self.new ≡ map object_in self.old }
+        ensures taken { IfOk result (λ found. slice_get (map object_in self.old) place ≡
+            option_map object_of found) }
+        ensures kept { OnErr result (IsKept self.old place) }
+    {
+        match seek(self.ranges.as_slice(), self.from, self.lent, place) {
+            Spot::Own(i) => take_own(&mut self.own, i),
+            Spot::Lent {
+                object: Some(_object),
+                base: _base,
+            } => Err(Memory::object_not_there()),
+            Spot::Lent {
+                object: None,
+                base: _base,
+            } => Ok(None),
+        }
+    }
+
+    /// Puts another object at a place, if one is there. Returns `Memory`, and puts nothing, for an attached object,
+    /// since no program changes one.
+    #[inline(always)]
+    pub fn put(&mut self, place: usize, object: Object) -> Result<(), Memory>
+        ensures put { OnOk result (map object_in self.new ≡ slice_set (map object_in self.old)
+            place (object_of object)) }
+        ensures same { OnErr result (self.new ≡ self.old) }
+        ensures lent { OnErr result (IsLent self.old place) }
+    {
+        match seek(self.ranges.as_slice(), self.from, self.lent, place) {
+            Spot::Own(i) => {
+                put_own(&mut self.own, i, object);
+                Ok(())
+            }
+            Spot::Lent {
+                object: Some(_object),
+                base: _base,
+            } => {
+                drop(object);
+                Err(Memory::object_not_there())
+            }
+            Spot::Lent {
+                object: None,
+                base: _base,
+            } => {
+                drop(object);
+                Ok(())
+            }
+        }
+    }
+
+    /// Returns the bytes that the object at a place counts for, or 0 if there is none.
+    pub fn size_at(&self, place: usize) -> u128
+        ensures { result ≡ found_bytes (slice_get (map object_in self.now) place) }
+    {
+        match seek(self.ranges.as_slice(), self.from, self.lent, place) {
+            Spot::Own(i) => size_own(self.own.as_slice(), i),
+            Spot::Lent {
+                object: Some(object),
+                base: _base,
+            } => size_of(frozen_shape(object)),
+            Spot::Lent {
+                object: None,
+                base: _base,
+            } => 0,
+        }
+    }
+
+    /// Adds an own object after all others.
+    ///
+    /// # Errors
+    ///
+    /// Returns `Memory`, and adds nothing, if an allocation fails.
+    pub fn push(&mut self, object: Object) -> Result<(), Memory>
+        ensures pushed { OnOk result (self.new ≡ self.old ++ own (object_of object) false ∷ []) }
+        ensures same { OnErr result (self.new ≡ self.old) }
+    {
+        self.own.push(HeapObject::new(object))?;
+        Ok(())
+    }
+
+    /// Attaches objects, which are then after all others. The time does not depend on their number.
+    ///
+    /// # Errors
+    ///
+    /// Returns `Memory`, and attaches nothing, if an allocation fails, or for a place of more than 32 bits.
+    pub fn attach(&mut self, objects: &Arc<FrozenObjects, Global>) -> Result<(), Memory>
+        ensures lent { OnOk result (self.new ≡ self.old ++ map (lent_at (length self.old))
+            (arc_value objects.now)) }
+        ensures same { OnErr result (self.new ≡ self.old) }
+    {
+        let range = range_behind(self.own.len(), self.lent, objects)?;
+        let (from, lent) = (range.end, range.through);
+        self.ranges.push(range)?;
+        self.from = from;
+        self.lent = lent;
+        Ok(())
+    }
+
+    /// Returns whether the object at a place is attached.
+    pub(crate) fn is_attached(&self, place: usize) -> bool {
+        match seek(self.ranges.as_slice(), self.from, self.lent, place) {
+            Spot::Own(_) => false,
+            Spot::Lent {
+                object: _object,
+                base: _base,
+            } => true,
+        }
+    }
+
+    /// Returns into how many parts the ranges divide the own objects, which is one more than there are ranges.
+    pub(crate) fn parts(&self) -> usize {
+        self.ranges.len().saturating_add(1)
+    }
+
+    /// Returns where a part of the own objects is: the place of the first, and that after the last.
+    pub(crate) fn part(&self, part: usize) -> (usize, usize) {
+        let first = match part.checked_sub(1) {
+            Some(before) => match self.ranges.get(before) {
+                Some(range) => range.end as usize,
+                None => self.len(),
+            },
+            None => 0,
+        };
+        match self.ranges.get(part) {
+            Some(range) => (first, range.start as usize),
+            None => (first, self.len()),
+        }
+    }
+
+    /// Frees the object at a place, if it is the heap's own, and returns the bytes that it counted for. These are 0 if
+    /// it was freed before, or if it is attached. For a contract it is still there.
+    pub fn free(&mut self, place: usize) -> u128
+        ensures same { map object_in self.new ≡ map object_in self.old }
+        ensures bytes { result ≡ bytes_at self.old place }
+    {
+        match seek(self.ranges.as_slice(), self.from, self.lent, place) {
+            Spot::Own(i) => free_own(&mut self.own, i),
+            Spot::Lent {
+                object: _object,
+                base: _base,
+            } => 0,
+        }
+    }
+}
+
+// Frees the own object with a number, and returns the bytes that it counted for.
+fn free_own(objects: &mut Vec<HeapObject>, i: usize) -> u128
+    ensures same { map written_object objects.new.items ≡ map written_object objects.old.items }
+    ensures number { length objects.new.items ≡ length objects.old.items }
+    ensures bytes { result ≡ standing_bytes
+        (option_map standing_of (slice_get objects.old.items i)) }
+{
+    match objects.get_mut(i) {
+        Some(found) => found.free(),
+        None => 0,
+    }
+}
+
+// Returns the bytes that the own object with a number counts for, or 0 if there is none.
+fn size_own(objects: &[HeapObject], i: usize) -> u128
+    ensures { result ≡ found_bytes (option_map written_object (slice_get objects.now i)) }
+{
+    match objects.get(i) {
+        Some(object) => object.size(),
+        None => 0,
+    }
+}
+
+// Makes the range of objects that are attached after all own and attached ones, or returns `Memory` for a place of more
+// than 32 bits.
+fn range_behind(
+    own: usize,
+    lent: u32,
+    objects: &Arc<FrozenObjects, Global>,
+) -> Result<Range, Memory>
+    requires { own < 2 ^ 63 }
+    ensures start { IfOk result (λ r. r.start ≡ own + lent) }
+    ensures end { IfOk result (λ r. r.end ≡ r.start + length (arc_value objects.now)) }
+    ensures through { IfOk result (λ r. r.through ≡ lent + length (arc_value objects.now)) }
+    ensures objects { IfOk result (λ r. arc_value r.objects ≡ arc_value objects.now) }
+{
+    let start = own + lent as usize;
+    let wanted = start as u128 + objects.len() as u128;
+    let Ok(last) = u32::try_from(wanted) else {
+        return Err(Memory::no_number_left(wanted));
+    };
+    let first = start as u32;
+    let through = lent + (last - first);
+    Ok(Range {
+        start: first,
+        end: last,
+        through,
+        objects: Arc::try_clone(objects)?,
+    })
+}

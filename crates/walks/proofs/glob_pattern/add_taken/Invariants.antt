@@ -1,7 +1,0 @@
-use Rattle.std.proofs.Common.{◌≡◌, ◌++◌, drop}
-use Rattle.std.specs.Prelude.{filter}
-use Rattle.walks.specs.Globs.{takes}
-use Rattle.walks.proofs.glob_pattern.add_taken.Given as goal
-
-abbrev pub invariant-loop-name : goal.invariant-loop-name
-invariant-loop-name l = l.all.items ++ filter (takes l.pattern) (drop l.name-index l.names) ≡ l.fn.all.items ++ filter (takes l.pattern) l.names

@@ -1,8 +1,0 @@
-use Rattle.std.proofs.Common.{rules, tests, lit<}
-use Rattle.std.proofs.lemmas.Iterator.Search.{all_from_yields_List}
-use Rattle.std.proofs.lemmas.Iterator.Splits.{YieldsList-from_str_split}
-use Rattle.pattern.specs.Patterns.{is_double_star}
-use Rattle.walks.proofs.glob_pattern.are_any.Goals as goal
-
-pub returns : goal.returns
-returns c = all_from_yields_List is_double_star _ _ _ c.all.ensures.ran (YieldsList-from_str_split 47 c.args.pattern.now (lit< tt) c.split.ensures.text c.split.ensures.has_more c.split.ensures.pattern) (λ x b q k. search (rules, tests))

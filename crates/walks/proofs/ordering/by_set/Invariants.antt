@@ -1,6 +1,0 @@
-use Rattle.std.proofs.Common.{◌≡◌, ◌++◌}
-use Rattle.filetree.specs.Listings.{sorted_names}
-use Rattle.walks.proofs.ordering.by_set.Given as goal
-
-abbrev pub invariant-loop-text : goal.invariant-loop-text
-invariant-loop-text l = l.all.items ++ l.text-iterator ≡ sorted_names l.texts
