@@ -49,6 +49,37 @@ def includes(count: int) -> list[Command]:
     return [put("s/BUILD", text), load("s")]
 
 
+def includes_from_the_last(count: int) -> list[Command]:
+    """A glob with so many includes, each less than the one before."""
+    text = f"x = glob([str(10000000 - i) for i in range({count})])\n"
+    return [put("s/BUILD", text), load("s")]
+
+
+def globs(count: int) -> list[Command]:
+    """So many globs with one include each."""
+    text = f'x = [0 for i in range({count}) if glob(["a" + str(i)])]\n'
+    return [put("s/BUILD", text), load("s")]
+
+
+def answered_globs(count: int) -> list[Command]:
+    """A glob with so many includes, and then many globs with seventeen of them."""
+    again = "y = [0 for i in range(4096) if glob(m)]\n"
+    text = f"l = [str(i) for i in range({count})]\nx = glob(l)\nm = l[:17]\n{again}"
+    return [put("s/BUILD", text), load("s")]
+
+
+def globs_among_statements(count: int) -> list[Command]:
+    """So many globs, each a statement, with as many other statements between them."""
+    text = "".join(f'glob(["a{it}"])\n1\n' for it in range(count))
+    return [put("s/BUILD", text), load("s")]
+
+
+def short_strings(count: int) -> list[Command]:
+    """A string that is split into 32,768 strings so many times."""
+    split = f"    for i in range({count}): x.split(',')\n"
+    return of_module(f"def f():\n    x = 'a,' * 32767\n{split}f()\n")
+
+
 def loaded_names(count: int) -> list[Command]:
     """A load of so many names of one module."""
     names = "".join(f"x{number}=0\n" for number in range(count))
@@ -76,6 +107,11 @@ GROWTHS: dict[str, tuple[Callable[[int], list[Command]], int, str]] = {
     "arguments under names of no parameter": (unknown_names, 12_000, WRONG_ARGUMENTS),
     "defaults of a function": (defaults, 6_000, '{"exports":["f","g"]}'),
     "includes of a glob": (includes, 16_384, EMPTY),
+    "includes of a glob in descending order": (includes_from_the_last, 16_384, EMPTY),
+    "globs of one include": (globs, 3_000, EMPTY),
+    "globs of includes that have answers": (answered_globs, 16_384, EMPTY),
+    "globs among statements": (globs_among_statements, 4_500, EMPTY),
+    "strings that nothing reaches": (short_strings, 20, '{"exports":["f"]}'),
     "names of a load": (loaded_names, 12_000, EMPTY),
     "tables that are loaded": (loaded_tables, 450, EMPTY),
     "targets of a package": (targets, 32_768, '"line":2,"path":"s/BUILD"'),

@@ -160,4 +160,4 @@ machine_field_send : IsSend (Machine.the_field).row
 machine_field_send = search (StateSends.the_field_send, StandingSends.the_field_send, OpenSends.the_send, frame_send, crosses, sendable) depth 60 fits 20000
 
 pub suspended_send : IsSend Suspended.the_row
-suspended_send = search (environment_field_send, machine_field_send, control_field_send, TextSends.the_send, crosses, sendable) depth 60 fits 20000
+suspended_send = search (environment_field_send, functions_send, machine_field_send, control_field_send, TextSends.the_send, crosses, sendable) depth 60 fits 20000

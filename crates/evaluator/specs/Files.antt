@@ -1,14 +1,15 @@
 -- How the evaluation of a file begins, and what is left of it where a machine stands in it.
-use Rattle.std.specs.Prelude.{◌≡◌, ◌++◌, ℕ, List, zip, Result, Ok, Err}
+use Rattle.std.specs.Prelude.{◌≡◌, ◌++◌, ℕ, List, map, zip, Result, Ok, Err}
 use Rattle.std.specs.Arc.{arc_value}
 use Rattle.std.specs.declared.alloc.Global.{Global}
 use Rattle.std.specs.declared.sync.Arc.{Arc}
 use Rattle.std.specs.declared.vec.Vec.{Vec}
 use Rattle.base_types.specs.declared.text.Text.{Text}
-use Rattle.syntax_tree.specs.Tree.{Fi, Ld}
+use Rattle.syntax_tree.specs.Tree.{Fi, Fn, Ld}
+use Rattle.syntax_tree.specs.Statements.{top_of}
 use Rattle.values_modules.specs.Values.{Body, ModuleValue}
 use Rattle.evaluator_semantics.specs.World.{World, Here, at_line, Ends, ended, failed, Runs, then_runs, ◌>>=◌, tick}
-use Rattle.evaluator_semantics.specs.Environment.{Env}
+use Rattle.evaluator_semantics.specs.Environment.{Env, defs}
 use Rattle.evaluator_semantics.specs.Laws.{with_answers}
 use Rattle.evaluator_semantics.specs.Files.{Outcome, a_need, leading, load_items, loads, file_level, leaves, outcome_of, evaluate}
 use Rattle.evaluator_frames.specs.declared.frame.Control.{Control}
@@ -40,6 +41,10 @@ left_behind env ends = then_runs ends (λ _. leaves env.kind env (file_level env
 -- a machine that stands in the evaluation of a file: what is left gives the file's outcome, under more answers too
 abbrev pub Stands : Environment → Machine → Control → Type 0
 Stands e m control = Under e (λ env. evaluate env ≡ outcome_of (left_behind env (means env m control)))
+
+-- the functions of the file that is evaluated
+abbrev pub HasFunctions : Environment → List Fn → Type 0
+HasFunctions e functions = functions ≡ defs (map top_of (arc_value e.file).tops.items)
 
 -- an evaluation that waits: what its file is given, and the patterns that have no answer
 pub record Waiting : Type 0 where

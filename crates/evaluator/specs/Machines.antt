@@ -8,7 +8,6 @@ use Rattle.evaluator_semantics.specs.World.{Here, Site, Ends, ended, failed, wai
 use Rattle.evaluator_semantics.specs.Environment.{Env, Answers}
 use Rattle.evaluator_semantics.specs.Laws.{KnowsMore, with_answers}
 use Rattle.evaluator_state.specs.View.{world_of, here_of}
-use Rattle.evaluator_package_calls.specs.View.{answers_of}
 use Rattle.evaluator_calls.specs.View.{running_of}
 use Rattle.evaluator_frames.specs.declared.frame.Control.{Control}
 use Rattle.evaluator_frames.specs.declared.frame.Control.TheVariants as c
@@ -31,7 +30,7 @@ env_of e = record {
   package_name = e.package.name;
   file = file_of (arc_value e.file);
   loads = e.loads.items;
-  globs = answers_of e.package.answers.items;
+  globs = e.package.answers;
 }
 
 -- where the function that runs stands

@@ -5,7 +5,7 @@ use crate::machine::{Environment, Machine};
 use base_types::Text;
 use evaluator_frames::Control;
 use std::marker::Model;
-use values_modules::{ModuleValue, Targets};
+use values_modules::{Functions, ModuleValue, Targets};
 
 /// A fault: its code, and the file and line where it is shown.
 #[derive(Drop)]
@@ -35,6 +35,8 @@ pub enum Outcome {
 pub struct Suspended {
     // Boxed, so that an outcome is moved as a few words.
     pub(crate) environment: Box<Environment>,
+    // The functions of the file, which are found once.
+    pub(crate) functions: Box<Functions>,
     pub(crate) machine: Box<Machine>,
     pub(crate) control: Box<Control>,
     pub(crate) patterns: Vec<Text>,
@@ -45,7 +47,7 @@ impl Model for Suspended {
     ghost use Rattle.std.specs.Coded.{code_by, coded×, coded_ℕ, coded_list};
     ghost use Rattle.evaluator.specs.declared.machine.Environment.{Environment};
     ghost use Rattle.evaluator.specs.contracts.machine.Environment as e;
-    ghost use Rattle.evaluator.specs.Files.{Waiting, Waits};
+    ghost use Rattle.evaluator.specs.Files.{Waiting, Waits, HasFunctions};
 
     ghost Value = { Waiting };
 
@@ -53,7 +55,7 @@ impl Model for Suspended {
 
     ghost view = { λ s. record { environment = s.environment.value; patterns = s.patterns.items } };
 
-    ghost invariant = { λ s. Waits s.environment.value s.machine.value s.control.value s.patterns.items };
+    ghost invariant = { λ s. Waits s.environment.value s.machine.value s.control.value s.patterns.items × HasFunctions s.environment.value s.functions.value };
 }
 
 // How many bytes of values an evaluation may have that is kept while it waits.

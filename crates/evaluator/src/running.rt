@@ -4,25 +4,25 @@ ghost use Rattle.syntax_tree.specs.Statements.{file_of, load_of};
 ghost use Rattle.evaluator_semantics.specs.World.{at_line};
 ghost use Rattle.evaluator_semantics.specs.Files.{all_steps, start, loads, leaves, file_level};
 ghost use Rattle.evaluator_state.specs.View.{world_of, here_of, Ran};
-ghost use Rattle.evaluator_package_calls.specs.View.{answers_of};
 ghost use Rattle.evaluator.specs.Machines.{env_of, Stops};
-ghost use Rattle.evaluator.specs.Files.{Stands, answered, shared_texts, load_does, opens, Opened};
+ghost use Rattle.evaluator.specs.Files.{Stands, HasFunctions, answered, shared_texts, load_does, opens, Opened};
 ghost use Rattle.evaluator.specs.Outcomes.{Evaluates, IsLeft, Shows};
 
 use crate::machine::{Environment, Machine, Progress, Stop};
 use crate::outcome::{Fault, Outcome, Suspended};
+use crate::setting::functions_in;
 use crate::turning::go;
 use base_types::{Memory, Text};
 use evaluator_calls::{file_block, frozen_module, load_items};
 use evaluator_frames::Control;
-use evaluator_package_calls::{GlobResult, targets_made};
+use evaluator_package_calls::{Answers, GlobResult, targets_made};
 use evaluator_state::{Block, DefaultsTable, FileNames, PackageTargets, Position, State, tick};
 use std::alloc::Global;
 use std::sync::Arc;
 use syntax_grammar::FileKind;
 use syntax_tree::{File, LoadStmt};
 use values_heap::{Halt, Heap};
-use values_modules::{Module, ModuleValue};
+use values_modules::{Functions, Module, ModuleValue};
 use values_semantics::faults;
 
 // The calls of functions that may be open at once.
@@ -193,36 +193,44 @@ fn share_all(alloc: Global, texts: &[Text]) -> Result<Vec<Text>, Memory>
 
 // Adds answers to patterns, behind the earlier ones.
 fn add_answers(
-    answers: &mut Vec<GlobResult>,
+    answers: &mut Answers,
     patterns: &[Text],
     results: &[Arc<Vec<Text>, Global>],
 ) -> Result<(), Memory>
-    ensures { OnOk result (answers_of answers.new.items ≡ answers_of answers.old.items
-        ++ zip patterns.now (map shared_texts results.now)) }
+    ensures { OnOk result (answers.new ≡ answers.old ++ zip patterns.now
+        (map shared_texts results.now)) }
 {
     for i in 0..patterns.len().min(results.len()) {
         let pattern = patterns[i].share()?;
         let paths = Arc::try_clone(&results[i])?;
-        answers.push(GlobResult { pattern, paths })?;
+        answers.add(GlobResult { pattern, paths })?;
     }
     Ok(())
 }
 
 // Goes on with the evaluation of a file.
-fn go_on(environment: Environment, machine: Machine, control: Control) -> Result<Outcome, Memory>
-    requires { Stands environment machine control }
+fn go_on(
+    environment: Environment,
+    functions: Functions,
+    machine: Machine,
+    control: Control,
+) -> Result<Outcome, Memory>
+    requires stands { Stands environment machine control }
+    requires functions { HasFunctions environment functions }
     ensures { Evaluates (env_of environment) result }
 {
     let mut machine = machine;
-    match go(&mut machine, &environment, control) {
+    match go(&mut machine, &environment, &functions, control) {
         Ok(Progress::Waits(control, patterns)) => {
             let alloc = machine.state.heap.alloc;
             let asked = share_all(alloc, patterns.as_slice())?;
             let environment = Box::new(alloc, environment)?;
+            let functions = Box::new(alloc, functions)?;
             let machine = Box::new(alloc, machine)?;
             let control = Box::new(alloc, control)?;
             let suspended = Suspended {
                 environment,
+                functions,
                 machine,
                 control,
                 patterns,
@@ -250,6 +258,7 @@ pub fn run(alloc: Global, environment: Environment) -> Result<Outcome, Memory>
         return stopped(stop);
     }
     let file = Arc::try_clone(&environment.file)?;
+    let functions = functions_in(alloc, &environment)?;
     let machine = Machine {
         state,
         frames: Vec::new(alloc),
@@ -257,7 +266,12 @@ pub fn run(alloc: Global, environment: Environment) -> Result<Outcome, Memory>
         running: Vec::new(alloc),
         left: OPEN_CALLS,
     };
-    go_on(environment, machine, Control::Tops { file, next: 0 })
+    go_on(
+        environment,
+        functions,
+        machine,
+        Control::Tops { file, next: 0 },
+    )
 }
 
 /// Goes on with an evaluation that waits, with an answer for each of its patterns, in order. The outcome is the same as
@@ -273,6 +287,7 @@ pub fn resume(suspended: Suspended, results: Vec<Arc<Vec<Text>, Global>>) -> Res
 {
     let Suspended {
         environment,
+        functions,
         machine,
         control,
         patterns,
@@ -285,6 +300,7 @@ pub fn resume(suspended: Suspended, results: Vec<Arc<Vec<Text>, Global>>) -> Res
     )?;
     go_on(
         environment,
+        Box::into_inner(functions),
         Box::into_inner(machine),
         Box::into_inner(control),
     )

@@ -4,6 +4,7 @@ ghost use Rattle.std.specs.Arc.{arc_value};
 ghost use Rattle.syntax_tree.specs.Statements.{top_of};
 ghost use Rattle.evaluator_semantics.specs.Environment.{defs};
 ghost use Rattle.values_modules.specs.FunctionNames.{first_named};
+ghost use Rattle.evaluator.specs.Files.{HasFunctions};
 
 use crate::machine::Environment;
 use base_types::Memory;
@@ -13,12 +14,24 @@ use std::marker::Model;
 use values_heap::Bytes;
 use values_modules::{Function, Functions};
 
+/// Finds the functions of the file that is evaluated.
+///
+/// # Errors
+///
+/// Returns `Memory` if an allocation fails.
+pub fn functions_in(alloc: Global, environment: &Environment) -> Result<Functions, Memory>
+    ensures { IfOk result (HasFunctions environment.now) }
+{
+    let functions = functions_of(alloc, environment.file.tops.as_slice())?;
+    Functions::new(functions)
+}
+
 /// What the evaluation of a file is given. The functions of the file are found by their names. A contract sees what is
 /// given.
 #[derive(Drop)]
 pub struct Setting<'a> {
     environment: &'a Environment,
-    functions: Functions,
+    functions: &'a Functions,
 }
 
 impl<'a> Model for Setting<'a> {
@@ -35,24 +48,19 @@ impl<'a> Model for Setting<'a> {
 
     ghost view = { λ s. s.environment.now };
 
-    ghost invariant = { λ s. s.functions ≡ defs (map top_of (arc_value s.environment.now.file).tops.items) };
+    ghost invariant = { λ s. s.functions.now ≡ defs (map top_of (arc_value s.environment.now.file).tops.items) };
 }
 
 impl<'a> Setting<'a> {
-    /// Makes the setting of an evaluation in this environment.
-    ///
-    /// # Errors
-    ///
-    /// Returns `Memory` if an allocation fails.
-    pub fn new(alloc: Global, environment: &'a Environment) -> Result<Setting<'a>, Memory>
-        ensures { IfOk result (λ s. s ≡ environment.now) }
+    /// Makes the setting of an evaluation in this environment, with the functions of its file.
+    pub fn new(environment: &'a Environment, functions: &'a Functions) -> Setting<'a>
+        requires { HasFunctions environment.now functions.now }
+        ensures { result ≡ environment.now }
     {
-        let functions = functions_of(alloc, environment.file.tops.as_slice())?;
-        let functions = Functions::new(functions)?;
-        Ok(Setting {
+        Setting {
             environment,
             functions,
-        })
+        }
     }
 
     /// Returns what the evaluation is given.

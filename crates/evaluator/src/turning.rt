@@ -5,6 +5,7 @@ ghost use Rattle.evaluator_state.specs.View.{world_of};
 ghost use Rattle.evaluator_frames.specs.declared.frame.Control.TheVariants as c;
 ghost use Rattle.evaluator_frames.specs.Frames.{Goes, on, control_line, is_leave, machine_does};
 ghost use Rattle.evaluator_frames.specs.Weight.{frames_weight};
+ghost use Rattle.evaluator.specs.Files.{HasFunctions};
 ghost use Rattle.evaluator.specs.Machines.{Leads, Stops, TurnFalls, Lightens, StaysLight, Falls, StepsFall, IsOver, IsActing, means, here_in};
 
 use crate::acting::{added, begin_block, built_in, define, of_value};
@@ -19,6 +20,7 @@ use evaluator_state::{Position, Slot};
 use std::alloc::Global;
 use std::sync::Arc;
 use values_heap::{Builtin, Halt, Val};
+use values_modules::Functions;
 
 // Returns why a part in a line stops.
 fn stop(m: &Machine, line: usize, halt: Halt) -> Stop
@@ -270,13 +272,17 @@ fn stretches(m: &mut Machine, e: &Setting<'_>, control: Control) -> Result<Progr
     }
 }
 
-/// Makes turns until the machine ends or waits.
-pub fn go(m: &mut Machine, e: &Environment, control: Control) -> Result<Progress, Stop>
+/// Makes turns until the machine ends or waits. The functions are those of the file.
+pub fn go(
+    m: &mut Machine,
+    e: &Environment,
+    functions: &Functions,
+    control: Control,
+) -> Result<Progress, Stop>
+    requires { HasFunctions e.now functions.now }
     ensures leads { Leads e.now (λ env. means env m.old control) result m.new }
     ensures over { IfOk result IsOver }
 {
-    match Setting::new(m.state.heap.alloc, e) {
-        Ok(setting) => stretches(m, &setting, control),
-        Err(error) => Err(Stop::Memory(error)),
-    }
+    let setting = Setting::new(e, functions);
+    stretches(m, &setting, control)
 }

@@ -1,15 +1,13 @@
 -- A table of answers and a set of questions, with one more of them.
-use Rattle.std.proofs.Common.{◌≡◌, ◌++◌, ◌+◌, ◌-◌, ◌<◌, ◌≤◌, ℕ, suc, Bool, true, false, not, cond, List, [], ◌∷◌, length, drop, drop-cons, get_or, map, Some, None, Option, is_some, refl, ap, sym, ◌∙◌, arith}
+use Rattle.std.proofs.Common.{◌≡◌, ◌++◌, ◌+◌, ℕ, suc, Bool, true, false, cond, List, [], ◌∷◌, length, Some, None, Option, refl, ap, sym, ◌∙◌, add-one}
 use Rattle.std.specs.Prelude.{option_map, slice_get, ◌||◌, if◌then◌else◌}
-use Rattle.std.proofs.lemmas.Option.{slice_get_read, slice_get-map}
 use lib.Pointwise.{bytes_decides}
 use Rattle.values_semantics.specs.Comparing.{same_text}
 use Rattle.evaluator_semantics.specs.Names.{has_name}
 use Rattle.evaluator_semantics.specs.Globs.{answer_to}
-use Rattle.evaluator_package_calls.specs.AnswerTables.{paths_at}
-use Rattle.evaluator_package_calls.specs.GlobResults.{with_unanswered}
-use Rattle.evaluator_package_calls.specs.View.{answer_of, answers_of}
-use Rattle.evaluator_package_calls.specs.declared.kinds.GlobResult.{GlobResult}
+use Rattle.evaluator_package_calls.specs.AnswerTables.{answer_of, answers_of, paths_at, place_of, earlier_or}
+use Rattle.evaluator_semantics.specs.Environment.{Answers}
+use Rattle.evaluator_package_calls.specs.declared.answers.GlobResult.{GlobResult}
 use Rattle.evaluator_package_calls.proofs.Gathering.{has-append}
 
 turned : (a b : List ℕ) → same_text a b ≡ same_text b a
@@ -21,28 +19,53 @@ turned a b = by (same_text a b) (same_text b a) refl refl
     by true false h g = sym ((bytes_decides b a).1 (sym ((bytes_decides a b).0 h))) ∙ g
     by false true h g = sym h ∙ (bytes_decides a b).1 (sym ((bytes_decides b a).0 g))
 
-pub places_more : (answers : List GlobResult) (i : ℕ) (a : GlobResult) (name : List ℕ) (after old : List ℕ → Option ℕ) → 0 < i → i ≤ length answers → a ≡ get_or answers (i - 1) a → name ≡ a.pattern
-    → ((q : List ℕ) → after q ≡ cond (same_text name q) (Some (i - 1)) (old q)) → ((q : List ℕ) → paths_at (answers_of answers) (old q) ≡ answer_to q (answers_of (drop i answers)))
-    → (q : List ℕ) → paths_at (answers_of answers) (after q) ≡ answer_to q (answers_of (drop (i - 1) answers))
-places_more answers i a name after old low within is named updates found q =
-    ap (paths_at (answers_of answers)) (updates q) ∙ by (same_text name q) refl
+-- what is at the place of a question is the answer to it
+pub place_finds : (x : List ℕ) (answers : Answers) → paths_at answers (place_of x answers) ≡ answer_to x answers
+place_finds x [] = refl
+place_finds x (a ∷ answers) = by (same_text x a.0) (place_finds x answers)
   where
-    before : drop (i - 1) answers ≡ a ∷ drop i answers
-    before =
-        let n : suc (i - 1) ≡ i = omega arith in
-        drop-cons answers (i - 1) a (omega arith) ∙ ap (λ (b : GlobResult). b ∷ drop (suc (i - 1)) answers) (sym is) ∙ ap (λ k. a ∷ drop k answers) n
+    behind : (o : Option ℕ) → paths_at (a ∷ answers) (option_map (λ i. i + 1) o) ≡ paths_at answers o
+    behind None = refl
+    behind (Some i) = ap (λ n. option_map (λ b. b.1) (slice_get (a ∷ answers) n)) (add-one i)
 
-    there : paths_at (answers_of answers) (Some (i - 1)) ≡ Some (answer_of a).1
-    there = ap (option_map (λ b. b.1)) (slice_get-map answer_of answers (i - 1) ∙ ap (option_map answer_of) (slice_get_read answers (length answers) (i - 1) a refl (omega arith) is))
+    by : (t : Bool) → paths_at answers (place_of x answers) ≡ answer_to x answers → paths_at (a ∷ answers) (if t then Some 0 else option_map (λ i. i + 1) (place_of x answers)) ≡ (if t then Some a.1 else answer_to x answers)
+    by true found = refl
+    by false found = behind (place_of x answers) ∙ found
 
-    first : (t : Bool) → same_text name q ≡ t → cond t (Some (answer_of a).1) (answer_to q (answers_of (drop i answers))) ≡ answer_to q (answers_of (drop (i - 1) answers))
-    first t e =
-        ap (λ t. cond t (Some (answer_of a).1) (answer_to q (answers_of (drop i answers)))) (sym e ∙ turned name q ∙ ap (same_text q) named)
-        ∙ ap (λ l. answer_to q (answers_of l)) (sym before)
+-- a further answer has a place only for a question without an earlier one
+pub place_more : (x : List ℕ) (answers : Answers) (a : List ℕ × List (List ℕ)) → place_of x (answers ++ a ∷ []) ≡ earlier_or (place_of x answers) (cond (same_text x a.0) (Some (length answers)) None)
+place_more x [] a = by (same_text x a.0)
+  where
+    by : (t : Bool) → (if t then Some 0 else option_map (λ i. i + 1) None) ≡ earlier_or None (cond t (Some 0) None)
+    by true = refl
+    by false = refl
+place_more x (b ∷ answers) a = ap (λ o. if same_text x b.0 then Some 0 else option_map (λ i. i + 1) o) (place_more x answers a) ∙ by (same_text x b.0) (place_of x answers) (same_text x a.0)
+  where
+    by : (t : Bool) (o : Option ℕ) (s : Bool) → (if t then Some 0 else option_map (λ i. i + 1) (earlier_or o (cond s (Some (length answers)) None))) ≡ earlier_or (if t then Some 0 else option_map (λ i. i + 1) o) (cond s (Some (length (b ∷ answers))) None)
+    by true o s = refl
+    by false (Some i) s = refl
+    by false None true = ap Some (add-one (length answers))
+    by false None false = refl
 
-    by : (t : Bool) → same_text name q ≡ t → paths_at (answers_of answers) (cond t (Some (i - 1)) (old q)) ≡ answer_to q (answers_of (drop (i - 1) answers))
-    by true e = there ∙ first true e
-    by false e = found q ∙ first false e
+-- a table that has noted a further answer has its place
+pub table_more : (x name : List ℕ) (answers : Answers) (a : List ℕ × List (List ℕ)) (place : ℕ) (after before : Option ℕ) → place ≡ length answers → name ≡ a.0 → before ≡ place_of x answers → after ≡ earlier_or before (cond (same_text name x) (Some place) None) → after ≡ place_of x (answers ++ a ∷ [])
+table_more x name answers a place after before at named was is =
+    is ∙ ap (λ o. earlier_or o (cond (same_text name x) (Some place) None)) was
+    ∙ ap (λ t. earlier_or (place_of x answers) (cond t (Some place) None)) (turned name x ∙ ap (same_text x) named)
+    ∙ ap (λ n. earlier_or (place_of x answers) (cond (same_text x a.0) (Some n) None)) at
+    ∙ sym (place_more x answers a)
+
+-- a further answer is after the others
+pub answers_more : (results : List GlobResult) (r : GlobResult) → answers_of (results ++ r ∷ []) ≡ answers_of results ++ answer_of r ∷ []
+answers_more [] r = refl
+answers_more (s ∷ results) r = ap (λ (l : Answers). answer_of s ∷ l) (answers_more results r)
+
+pub as_many : (results : List GlobResult) → length (answers_of results) ≡ length results
+as_many [] = refl
+as_many (r ∷ results) = ap suc (as_many results)
+
+pub is_same : {X : Type 0} {x y : X} → Some x ≡ Some y → x ≡ y
+is_same h = cc
 
 pub noted_more : (name : List ℕ) (all more : List (List ℕ)) (after old : List ℕ → Bool) → more ≡ all ++ name ∷ [] → ((q : List ℕ) → after q ≡ cond (same_text name q) true (old q)) → ((q : List ℕ) → old q ≡ has_name q all) → (q : List ℕ) → after q ≡ has_name q more
 noted_more name all more after old m updates has q =

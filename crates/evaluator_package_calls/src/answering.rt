@@ -1,4 +1,4 @@
-//! The answer of a call of `glob`.
+//! The result of a call of `glob`.
 ghost use Rattle.std.specs.Prelude.{◌≡◌, ◌++◌, [], map, IfOk, OnOk};
 ghost use Rattle.labels.specs.Paths.{segments};
 ghost use Rattle.pattern.specs.Globs.{some_matches};
@@ -21,7 +21,7 @@ use std::collections::HashSet;
 use values_heap::{Bytes, Halt, Heap, MAX_LENGTH, Object, Val};
 use values_semantics::faults;
 
-/// So many questions are compared with one another; for more a set of those that were seen is made.
+/// The most questions that are compared with one another; for more a set of those that were seen is made.
 const FEW: usize = 16;
 
 // Returns whether a text is among others.
@@ -39,10 +39,11 @@ fn has_name(x: &Text, texts: &[Text]) -> bool
 /// Returns the questions that have no answer, in order and each once.
 pub fn queries_without_result(
     alloc: Global,
-    answers: &Answers<'_>,
+    answers: &Answers,
     questions: &[Text],
 ) -> Result<Vec<Text>, Memory>
-    ensures { IfOk result (λ v. v.items ≡ globs.queries_without_result answers.now [] questions.now) }
+    ensures { IfOk result (λ v. v.items ≡ globs.queries_without_result answers.now []
+        questions.now) }
 {
     if questions.len() > FEW {
         return many_unanswered(alloc, answers, questions);
@@ -55,7 +56,7 @@ pub fn queries_without_result(
 }
 
 // Adds a question, unless it has an answer or is there already.
-fn add_unanswered(all: &mut Vec<Text>, answers: &Answers<'_>, question: &Text) -> Result<(), Memory>
+fn add_unanswered(all: &mut Vec<Text>, answers: &Answers, question: &Text) -> Result<(), Memory>
     ensures { OnOk result (all.new.items ≡ with_unanswered question.now answers.now
         all.old.items) }
 {
@@ -72,10 +73,11 @@ fn add_unanswered(all: &mut Vec<Text>, answers: &Answers<'_>, question: &Text) -
 // Returns those of many questions that have no answer, in order and each once.
 fn many_unanswered(
     alloc: Global,
-    answers: &Answers<'_>,
+    answers: &Answers,
     questions: &[Text],
 ) -> Result<Vec<Text>, Memory>
-    ensures { IfOk result (λ v. v.items ≡ globs.queries_without_result answers.now [] questions.now) }
+    ensures { IfOk result (λ v. v.items ≡ globs.queries_without_result answers.now []
+        questions.now) }
 {
     let mut seen = HashSet::new(alloc);
     let mut all = Vec::new(alloc);
@@ -89,7 +91,7 @@ fn many_unanswered(
 fn note_unanswered(
     seen: &mut HashSet<Text>,
     all: &mut Vec<Text>,
-    answers: &Answers<'_>,
+    answers: &Answers,
     question: &Text,
 ) -> Result<(), Memory>
     requires { HasTexts seen.old all.old.items }
@@ -108,11 +110,11 @@ fn note_unanswered(
     Ok(())
 }
 
-/// Returns the paths that a call's questions find by their answers and that no exclude matches, in byte order and
-/// without repeats.
+/// Returns the paths that the answers to a call's questions have and that no exclude matches, in byte order and without
+/// repeats.
 pub fn glob_paths(
     alloc: Global,
-    answers: &Answers<'_>,
+    answers: &Answers,
     questions: &[Text],
     excludes: &[Pattern],
 ) -> Result<Vec<Text>, Memory>
@@ -123,10 +125,10 @@ pub fn glob_paths(
     in_order(alloc, all.as_slice())
 }
 
-// Returns the paths that some question finds and no exclude matches, as they are found.
+// Returns the paths that the answer to some question has and no exclude matches, in the order in which they are found.
 fn matching_paths(
     alloc: Global,
-    answers: &Answers<'_>,
+    answers: &Answers,
     questions: &[Text],
     excludes: &[Pattern],
 ) -> Result<Vec<Text>, Memory>
@@ -140,10 +142,10 @@ fn matching_paths(
     Ok(all)
 }
 
-// Adds the paths that a question finds and no exclude matches.
+// Adds the paths that the answer to a question has and no exclude matches.
 fn add_found(
     all: &mut Vec<Text>,
-    answers: &Answers<'_>,
+    answers: &Answers,
     question: &Text,
     excludes: &[Pattern],
 ) -> Result<(), Memory>

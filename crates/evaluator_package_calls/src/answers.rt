@@ -1,70 +1,72 @@
-//! The answers to questions, found by the questions.
-ghost use Rattle.std.specs.Prelude.{◌≡◌, ℕ, List, IfOk, option_map};
+//! The answers to questions, which are found by the questions.
+ghost use Rattle.std.specs.Prelude.{◌≡◌, ◌++◌, ◌∷◌, [], ℕ, List, Some, None, cond, IfOk, OnOk, OnErr, option_map};
 ghost use Rattle.std.specs.HashMap.{get};
 ghost use Rattle.values_semantics.specs.Comparing.{same_text};
 ghost use Rattle.evaluator_semantics.specs.Globs.{answer_to};
-ghost use Rattle.evaluator_package_calls.specs.AnswerTables.{paths_at};
-ghost use Rattle.evaluator_package_calls.specs.View.{answers_of};
+ghost use Rattle.evaluator_package_calls.specs.AnswerTables.{answer_of, answers_of, paths_at, earlier_or};
 
-use crate::kinds::GlobResult;
 use base_types::{Memory, Text};
 use std::alloc::Global;
 use std::collections::HashMap;
 use std::marker::Model;
+use std::sync::Arc;
 
-/// So many questions are looked for one by one; for more a table of the answers is made.
-const FEW: usize = 16;
+/// The answer to a question: the paths that are found in the package. The question is the pattern, with a space and
+/// `dirs` after it where directories are asked for too.
+#[derive(Drop)]
+pub struct GlobResult {
+    pub pattern: Text,
+    pub paths: Arc<Vec<Text>, Global>,
+}
 
-// The place of each answer, by its question.
+// The place of the first answer to each question.
 #[derive(Drop)]
 struct Places {
     places: HashMap<Text, usize>,
 }
 
-/// Answers, of which the one to a question is found. A contract sees them.
+/// The answers to questions, in the order in which they came. The first one to a question is found without a search. A
+/// contract sees the questions with what was found.
 #[derive(Drop)]
-pub struct Answers<'a> {
-    answers: &'a [GlobResult],
+pub struct Answers {
+    results: Vec<GlobResult>,
+    // The table is there unless an allocation failed.
     table: Option<Places>,
 }
 
-impl<'a> Model for Answers<'a> {
+impl Model for Answers {
     ghost use Rattle.std.specs.Prelude.{◌≡◌, ℕ, List};
     ghost use Rattle.std.specs.Option.{ForSome};
     ghost use Rattle.std.specs.HashMap.{get};
     ghost use Rattle.values_semantics.specs.Comparing.{same_text};
-    ghost use Rattle.evaluator_semantics.specs.Globs.{answer_to};
-    ghost use Rattle.evaluator_package_calls.specs.AnswerTables.{paths_at};
-    ghost use Rattle.evaluator_package_calls.specs.View.{answers_of};
+    ghost use Rattle.evaluator_package_calls.specs.AnswerTables.{answers_of, place_of};
 
     ghost Value = { List (List ℕ × List (List ℕ)) };
 
-    ghost view = { λ a. answers_of a.answers.now };
+    ghost view = { λ a. answers_of a.results.items };
 
-    ghost invariant = { λ a. ForSome a.table (λ t. (x : List ℕ) → paths_at (answers_of a.answers.now) (get same_text t.places x) ≡ answer_to x (answers_of a.answers.now)) };
+    ghost invariant = { λ a. ForSome a.table (λ t. (x : List ℕ) → get same_text t.places x ≡ place_of x (answers_of a.results.items)) };
 }
 
-// Makes the table of answers, from the last to the first.
-fn places_of(alloc: Global, answers: &[GlobResult]) -> Result<Places, Memory>
-    ensures { IfOk result (λ t. (x : List ℕ)
-        → paths_at (answers_of answers.now) (get same_text t.places x) ≡ answer_to x
-        (answers_of answers.now)) }
+// Notes the place of an answer to a question, unless there is an earlier one.
+fn note_place(table: Places, question: Text, place: usize) -> Result<Places, Memory>
+    ensures { IfOk result (λ t. (x : List ℕ) → get same_text t.places x
+        ≡ earlier_or (get same_text table.places x)
+        (cond (same_text question x) (Some place) None)) }
 {
-    let mut places = HashMap::new(alloc);
-    let mut i = answers.len();
-    while i > 0 {
-        i -= 1;
-        places.insert(answers[i].pattern.share()?, i)?;
+    let mut places = table.places;
+    if !places.contains_key(&question) {
+        places.insert(question, place)?;
     }
     Ok(Places { places })
 }
 
-// Returns the paths of the answer at a place, or none.
-fn paths_at<'a>(answers: &'a [GlobResult], place: Option<usize>) -> Option<&'a [Text]>
-    ensures { option_map (λ paths. paths.now) result ≡ paths_at (answers_of answers.now) place }
+// Returns the paths of the answer at a place, if there is one.
+fn paths_at<'a>(results: &'a [GlobResult], place: Option<usize>) -> Option<&'a [Text]>
+    ensures { option_map (λ paths. paths.now) result ≡ paths_at (answers_of results.now) place }
 {
     match place {
-        Some(i) => match answers.get(i) {
+        Some(i) => match results.get(i) {
             Some(answer) => Some(answer.paths.as_slice()),
             None => None,
         },
@@ -73,11 +75,11 @@ fn paths_at<'a>(answers: &'a [GlobResult], place: Option<usize>) -> Option<&'a [
 }
 
 // Returns the paths that answer a question, if it has an answer.
-fn answer_to<'a>(answers: &'a [GlobResult], question: &Text) -> Option<&'a [Text]>
+fn answer_to<'a>(results: &'a [GlobResult], question: &Text) -> Option<&'a [Text]>
     ensures { option_map (λ paths. paths.now) result ≡ answer_to question.now
-        (answers_of answers.now) }
+        (answers_of results.now) }
 {
-    for answer in answers {
+    for answer in results {
         if *question == answer.pattern {
             return Some(answer.paths.as_slice());
         }
@@ -85,32 +87,49 @@ fn answer_to<'a>(answers: &'a [GlobResult], question: &Text) -> Option<&'a [Text
     None
 }
 
-impl<'a> Answers<'a> {
-    /// Takes answers, of which so many will be looked for.
-    pub fn of(
-        alloc: Global,
-        answers: &'a [GlobResult],
-        wanted: usize,
-    ) -> Result<Answers<'a>, Memory>
-        ensures { IfOk result (λ a. a ≡ answers_of answers.now) }
+impl Answers {
+    /// Makes a list of no answers.
+    pub fn new(alloc: Global) -> Answers
+        ensures { result ≡ [] }
     {
-        if wanted <= FEW {
-            return Ok(Answers {
-                answers,
-                table: None,
-            });
+        Answers {
+            results: Vec::new(alloc),
+            table: Some(Places {
+                places: HashMap::new(alloc),
+            }),
         }
-        let table = Some(places_of(alloc, answers)?);
-        Ok(Answers { answers, table })
     }
 
-    /// Returns the paths that answer a question, if it has an answer. Where many are looked for, it takes no search.
-    pub fn answer(&self, question: &Text) -> Option<&'a [Text]>
+    /// Adds an answer after the others.
+    ///
+    /// # Errors
+    ///
+    /// Returns `Memory` if an allocation fails. The answers are then as before.
+    pub fn add(&mut self, answer: GlobResult) -> Result<(), Memory>
+        ensures ok { OnOk result (self.new ≡ self.old ++ answer_of answer ∷ []) }
+        ensures err { OnErr result (self.new ≡ self.old) }
+    {
+        let place = self.results.len();
+        let question = answer.pattern.share()?;
+        let Some(table) = self.table.take() else {
+            self.results.push(answer)?;
+            return Ok(());
+        };
+        let table = note_place(table, question, place)?;
+        self.results.push(answer)?;
+        self.table = Some(table);
+        Ok(())
+    }
+
+    /// Returns the paths that answer a question, if it has an answer. The cost does not depend on the number of
+    /// answers.
+    pub fn answer(&self, question: &Text) -> Option<&[Text]>
         ensures { option_map (λ paths. paths.now) result ≡ answer_to question.now self.now }
     {
+        let results = self.results.as_slice();
         match &self.table {
-            Some(table) => paths_at(self.answers, table.places.get(question).copied()),
-            None => answer_to(self.answers, question),
+            Some(table) => paths_at(results, table.places.get(question).copied()),
+            None => answer_to(results, question),
         }
     }
 }

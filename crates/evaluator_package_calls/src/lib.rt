@@ -1,5 +1,4 @@
-//! The package calls of the language: `package_name`, `glob` and the rules. Layer: evaluation of a file, on base,
-//! files, syntax and values. Begin at `rules.rt`.
+//! The package calls of the language: `package_name`, `glob` and the rules. Begin at `rules.rt`.
 #![tactic(auto)]
 
 mod answering;
@@ -17,6 +16,7 @@ mod spelling;
 mod strings;
 mod targets;
 
-pub use kinds::{CallResult, GlobResult, Package};
+pub use answers::{Answers, GlobResult};
+pub use kinds::{CallResult, Package};
 pub use rules::package_call;
 pub use targets::targets_made;

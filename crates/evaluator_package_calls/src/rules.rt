@@ -11,7 +11,7 @@ ghost use Rattle.values_heap.specs.View.{store_of, Says};
 ghost use Rattle.evaluator_state.specs.View as view;
 ghost use Rattle.evaluator_state.specs.View.{world_of, Ran};
 ghost use Rattle.evaluator_package_calls.specs.RuleArguments.{value_at, described, target_read};
-ghost use Rattle.evaluator_package_calls.specs.View.{ChecksAs, IsOf, EndsAs, IfWaits, answers_of};
+ghost use Rattle.evaluator_package_calls.specs.View.{ChecksAs, IsOf, EndsAs, IfWaits};
 ghost use Rattle.evaluator_package_calls.specs.Within.{within, named_package};
 
 use crate::answering::{glob_paths, make_paths, make_text, queries_without_result};
@@ -20,7 +20,7 @@ use crate::arguments::{named_part, named_values, plain_part};
 use crate::attributes::{all_read, are_typed};
 use crate::fields::{FIELDS, Field, fields_of};
 use crate::globbing::{questions, read_call};
-use crate::kinds::{CallResult, GlobResult, Package};
+use crate::kinds::{CallResult, Package};
 use crate::slots::{take_arguments, value_at};
 use crate::spelling::is_path;
 use crate::strings::text_at;
@@ -30,9 +30,10 @@ use syntax_grammar::FileKind;
 use values_heap::{Builtin, Bytes, Halt, Heap, Val};
 use values_semantics::faults;
 
-/// Makes a package call, whose last arguments have the names. It gives a value, or waits for the answers to questions.
-/// Where it waits, nothing has changed, and the same call is made again once they are answered. Returns fault 23 in a
-/// .bzl file. A rule has faults 25, 5, 15 and 20; `glob` has 25, 5, 21, 13 and 22; `package_name` has 25 and 13.
+/// Makes a package call, whose last arguments have the names. It returns a value, or the questions whose answers it
+/// needs. In the second case nothing has changed, and the same call is made again when they are answered. Returns fault
+/// 23 in a .bzl file. A rule has faults 25, 5, 15 and 20; `glob` has 25, 5, 21, 13 and 22; `package_name` has 25 and
+/// 13.
 pub fn package_call(
     state: &mut State,
     known: &Package,
@@ -66,7 +67,7 @@ fn in_package(
     values: &[Val],
 ) -> Result<CallResult, Halt>
     ensures says { (here : Here) → EndsAs here.site
-        (within known.now.name (answers_of known.now.answers.items) f xs.now
+        (within known.now.name known.now.answers f xs.now
         (zip names.now values.now) here (world_of state.old)) result (world_of state.new) }
     ensures waits { IfWaits result (state.new ≡ state.old) }
     ensures steps { IfOk result (λ _. state.new.heap.steps ≤ state.old.heap.steps) }
@@ -78,7 +79,7 @@ fn in_package(
                 Err(halt) => Err(halt),
             }
         }
-        Builtin::Glob => glob_call(&mut state.heap, known.answers.as_slice(), xs, names, values),
+        Builtin::Glob => glob_call(&mut state.heap, &known.answers, xs, names, values),
         _ => match rule(state, f, &known.name, xs, names, values) {
             Ok(made) => Ok(CallResult::Value(made)),
             Err(halt) => Err(halt),
@@ -86,7 +87,7 @@ fn in_package(
     }
 }
 
-// Returns the name of the package, or fault 25 or 13. The named arguments are given by their names and values.
+// Returns the name of the package, or fault 25 or 13. The named arguments come as their names and their values.
 fn package_name(
     heap: &mut Heap,
     name: &Text,
@@ -120,16 +121,16 @@ fn name_of_package(
     Ok(made)
 }
 
-// Calls `glob`, whose named arguments are given by their names and values.
+// Calls `glob`, whose named arguments come as their names and their values.
 fn glob_call(
     heap: &mut Heap,
-    answers: &[GlobResult],
+    answers: &Answers,
     xs: &[Val],
     names: &[Text],
     values: &[Val],
 ) -> Result<CallResult, Halt>
     ensures says { (here : Here) (w : World) → w.store ≡ store_of heap.old → EndsAs here.site
-        (glob (answers_of answers.now) xs.now (zip names.now values.now) here w) result
+        (glob answers.now xs.now (zip names.now values.now) here w) result
         (record w { store = store_of heap.new }) }
     ensures waits { IfWaits result (heap.new ≡ heap.old) }
     ensures steps { IfOk result (λ _. heap.new.steps ≤ heap.old.steps) }
@@ -141,12 +142,12 @@ fn glob_call(
 // Calls `glob`.
 fn glob(
     heap: &mut Heap,
-    answers: &[GlobResult],
+    answers: &Answers,
     xs: &[Val],
     ns: &[(Text, Val)],
 ) -> Result<CallResult, Halt>
     ensures says { (here : Here) (w : World) → w.store ≡ store_of heap.old → EndsAs here.site
-        (glob (answers_of answers.now) xs.now ns.now here w) result
+        (glob answers.now xs.now ns.now here w) result
         (record w { store = store_of heap.new }) }
     ensures waits { IfWaits result (heap.new ≡ heap.old) }
     ensures steps { IfOk result (λ _. heap.new.steps ≤ heap.old.steps) }
@@ -156,14 +157,13 @@ fn glob(
         Err(halt) => return Err(halt),
     };
     let questions = questions(heap.alloc, asked.directories, asked.includes.as_slice())?;
-    let answers = Answers::of(heap.alloc, answers, questions.len())?;
-    let open = queries_without_result(heap.alloc, &answers, questions.as_slice())?;
+    let open = queries_without_result(heap.alloc, answers, questions.as_slice())?;
     if !open.is_empty() {
         return Ok(CallResult::Need(open));
     }
     let paths = glob_paths(
         heap.alloc,
-        &answers,
+        answers,
         questions.as_slice(),
         asked.excludes.as_slice(),
     )?;
@@ -173,7 +173,7 @@ fn glob(
     }
 }
 
-/// Calls a rule, which makes a target and gives None. Faults 25, 5, 15 and 20, in this order.
+/// Calls a rule, which makes a target and returns None, or returns fault 25, 5, 15 or 20, in this order.
 pub fn rule(
     state: &mut State,
     f: Builtin,

@@ -1,5 +1,5 @@
-//! Places of names in blocks. Each name of a tree keeps the place at which it was found last, which is its place whenever
-//! the same code runs; there it is looked for first.
+//! Places of names in blocks. Each name of a tree keeps the place at which it was found last. Whenever the same code is
+//! executed, the name is at that place, so it is looked up there first.
 ghost use Rattle.std.specs.Prelude.{◌≡◌, true, IfOk, IfSome};
 ghost use Rattle.values_semantics.specs.Comparing.{same_text};
 ghost use Rattle.evaluator_state.specs.Once.{names_in, differ};
@@ -12,10 +12,13 @@ use indexmap::IndexSet;
 use std::alloc::Global;
 use std::sync::atomic::{AtomicUsize, Ordering};
 
-/// So many names are compared with each other; for more a set is made.
+/// The most names that are compared with each other; for more a set is made.
 const FEW: usize = 16;
 
-// Returns whether two names are the same. Names are short, so their bytes are compared one by one.
+/// The most bytes of a short name.
+const SHORT: usize = 32;
+
+// Returns whether two names are the same. Most names are short, and the bytes of those are compared one by one.
 fn is_same(x: &Text, y: &Text) -> bool
     ensures { result ≡ same_text x.now y.now }
 {
@@ -23,6 +26,9 @@ fn is_same(x: &Text, y: &Text) -> bool
     let b = y.as_str().as_bytes();
     if a.len() != b.len() {
         return false;
+    }
+    if a.len() > SHORT {
+        return *x == *y;
     }
     for i in 0..a.len() {
         if a[i] != b[i] {
@@ -44,7 +50,7 @@ fn first_place(slots: &[Slot], x: &Text) -> Option<usize>
     None
 }
 
-/// Returns whether a name is known to stand first at a place.
+/// Returns whether a name is known to be first at a place.
 pub(crate) fn is_at(block: &Block, x: &Text, place: usize) -> bool
     ensures { result ≡ true → FirstSo (is_slot x.now) block.now.slots.items place }
 {
@@ -64,7 +70,7 @@ fn search(block: &Block, x: &Text) -> Option<usize>
     }
 }
 
-/// Returns the place of a name in a block, which is where it was found last unless other code ran in between.
+/// Returns the place of a name in a block, which is where it was found last unless other code was executed in between.
 pub fn place_in(block: &Block, x: &Text, last: &AtomicUsize) -> Option<usize>
     ensures { FirstPlace (is_slot x.now) block.now.slots.items result }
 {
@@ -79,7 +85,7 @@ pub fn place_in(block: &Block, x: &Text, last: &AtomicUsize) -> Option<usize>
     found
 }
 
-// Returns whether each of a few names stands once.
+// Returns whether each of a few names occurs once.
 fn few_differ(slots: &[Slot]) -> bool
     ensures { result ≡ true → differ (names_in slots.now) ≡ true }
 {
@@ -91,7 +97,7 @@ fn few_differ(slots: &[Slot]) -> bool
     true
 }
 
-// Returns the names of many slots, if each stands once.
+// Returns the names of many slots, if each occurs once.
 fn index_of(alloc: Global, slots: &[Slot]) -> Result<Option<IndexSet<Text>>, Memory>
     ensures { IfOk result
         (λ o. IfSome o (λ s. (s.keys ≡ names_in slots.now)
@@ -108,7 +114,7 @@ fn index_of(alloc: Global, slots: &[Slot]) -> Result<Option<IndexSet<Text>>, Mem
 }
 
 impl Block {
-    /// Makes a block with these slots, whose names differ. They are few: else `new` makes a set of them.
+    /// Makes a block with these slots, whose names differ. There must be few slots, since `new` makes a set of more.
     pub fn small_block(slots: Vec<Slot>) -> Block
         requires { differ (names_in slots.items) ≡ true }
         ensures { block_view result ≡ block_of slots }

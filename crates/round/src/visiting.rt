@@ -1,4 +1,4 @@
-//! Wants nodes, looks at those that wait, and settles them.
+//! Opening nodes, visiting those that wait, and settling them.
 ghost use Rattle.std.specs.Prelude.{◌≡◌, ◌+◌, ◌<◌, ◌^◌, [], ℕ, true, false, IfOk, OnOk, Some, IfSome, IfNone, IsTrue, Option, ◌∷◌, None, List};
 ghost use Rattle.std.specs.Option.{is_some};
 ghost use Rattle.engine_semantics.specs.Value.{In};
@@ -25,7 +25,7 @@ use keys::{Key, Value, is_leaf, read_leaf};
 use node::{Comparison, Graph};
 use round_nodes::{
     Nodes, OpenNodes, Phase, begin_check, begin_run, close_node, enqueue, first_stop, is_settled,
-    last_unsettled, log_run, pass_groups, put_ready, restart, unsettled_members, wait_for,
+    log_run, pass_groups, put_ready, restart, some_unsettled, unsettled_members, wait_for,
 };
 use std::alloc::Global;
 use std::sync::Arc;
@@ -67,7 +67,7 @@ pub fn is_open(nodes: &Nodes, key: &Key) -> bool
     nodes.get(key).is_some()
 }
 
-// Begins a node that is no leaf and not settled.
+// Opens a node that is not a leaf and not settled.
 fn open_inner(alloc: Global, graph: &Graph, table: &mut OpenNodes, key: &Key) -> Result<(), Memory>
     requires unsettled { IsUnsettled (record_at graph.now) key.now }
     requires closed { node_at table.old.nodes key.now ≡ None }
@@ -85,8 +85,8 @@ fn open_inner(alloc: Global, graph: &Graph, table: &mut OpenNodes, key: &Key) ->
     Ok(())
 }
 
-/// Wants a key. If it is neither settled nor open, a leaf is read, a node with a record is to be checked, and another
-/// one makes turns.
+/// Opens a key. If it is neither settled nor open, a leaf is read, a node with a record is to be checked, and any other
+/// node makes turns.
 pub fn open_node(
     alloc: Global,
     graph: &mut Graph,
@@ -114,7 +114,7 @@ pub fn open_node(
     Ok(())
 }
 
-/// Wants all keys.
+/// Opens all keys.
 pub fn open_all(
     alloc: Global,
     graph: &mut Graph,
@@ -123,7 +123,8 @@ pub fn open_all(
     keys: &[Key],
 ) -> Result<(), Memory>
     ensures wants { OnOk result (Wants graph.old graph.new table.old table.new) }
-    ensures wanted { OnOk result ((k : Key) → In k keys.now → IsOpenOrSettled graph.new table.new k) }
+    ensures wanted { OnOk result ((k : Key) → In k keys.now → IsOpenOrSettled graph.new
+        table.new k) }
     ensures truth { KeepsInvariantOf keys.now (leaves.read tree.now) graph.old graph.new table.old
         table.new result }
     ensures looked { OnOk result (table.new.visited ≡ table.old.visited) }
@@ -184,7 +185,8 @@ pub fn finish_node(
     Ok(())
 }
 
-// Wants the members of a group, and makes the node wait for the last that is not settled then.
+// Opens the members of a group, and makes the node wait for one that is then not settled. If there is none, the node is
+// to be visited again.
 fn wait_for_group(
     alloc: Global,
     graph: &mut Graph,
@@ -205,14 +207,14 @@ fn wait_for_group(
     ensures looked { OnOk result (table.new.visited ≡ table.old.visited) }
 {
     open_all(alloc, graph, tree, table, missing)?;
-    match last_unsettled(graph, missing) {
+    match some_unsettled(graph, missing) {
         Some(member) => wait_for(table, member, key)?,
         None => enqueue(table, key)?,
     }
     Ok(())
 }
 
-// Looks at a node whose record is checked, and that passed so many groups.
+// Visits a node whose record is checked, and which has passed this many groups.
 fn check(
     alloc: Global,
     graph: &mut Graph,
@@ -249,7 +251,7 @@ fn check(
     Ok(())
 }
 
-// Returns the last group that a node's turns asked.
+// Returns the last group that a node's turns asked for.
 fn last_group<'a>(nodes: &'a Nodes, key: &Key) -> &'a [Key]
     ensures { (n : Node) → node_at nodes.now key.now ≡ Some n
         → IsLastGroup (groups_of n) result.now }
@@ -263,7 +265,7 @@ fn last_group<'a>(nodes: &'a Nodes, key: &Key) -> &'a [Key]
     }
 }
 
-// Looks at a node that makes turns.
+// Visits a node that makes turns.
 fn visit_running(
     alloc: Global,
     graph: &mut Graph,
@@ -328,7 +330,7 @@ fn is_running(nodes: &Nodes, key: &Key) -> bool
     }
 }
 
-// Looks at a node.
+// Visits a node.
 fn visit(
     alloc: Global,
     graph: &mut Graph,
@@ -355,7 +357,7 @@ fn visit(
     Ok(())
 }
 
-// Takes the next key that is to be looked at.
+// Takes the next key that is to be visited.
 fn next_key(table: &mut OpenNodes) -> Result<Option<Key>, Memory>
     ensures { IfOk result (IsNextKey table.old table.new) }
 {
@@ -367,7 +369,7 @@ fn next_key(table: &mut OpenNodes) -> Result<Option<Key>, Memory>
     Ok(Some(key))
 }
 
-// Looks at the next node that is to be looked at. Returns whether there was one.
+// Visits the next node that is to be visited. Returns whether there was one.
 fn visit_next(
     alloc: Global,
     graph: &mut Graph,
@@ -397,7 +399,7 @@ fn visit_next(
     }
 }
 
-/// Looks at each node that is to be looked at, until none is left.
+/// Visits each node that is to be visited, until none is left.
 pub fn visit_all(
     alloc: Global,
     graph: &mut Graph,

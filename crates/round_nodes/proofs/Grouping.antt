@@ -19,9 +19,9 @@ use Rattle.keys.specs.declared.key.Key.{Key}
 use Rattle.keys.specs.declared.value.Value.{Value}
 use Rattle.keys.specs.declared.value.Value.TheVariants as value
 use Rattle.node.specs.Graphs.{present}
-use Rattle.node.proofs.Lists.{none_some, true_false, not_in, in_split, in_left, in_one, some_is}
+use Rattle.node.proofs.Lists.{none_some, true_false, not_in, in_split, in_left, in_right, in_one, some_is}
 use Rattle.round_nodes.specs.Nodes.{Records, IsClean, IsPlain, IsUnsettled}
-use Rattle.round_nodes.specs.Members.{IsMissing, is_cycle, no_cycle, plain_value, AnswersGroup, all_values, AreAnswers, Answers}
+use Rattle.round_nodes.specs.Members.{IsMissing, FindsUnsettled, is_cycle, no_cycle, plain_value, AnswersGroup, all_values, AreAnswers, Answers}
 
 pub snoc_in : {X : Type 0} (xs : List X) {x y : X} → In y (xs ++ x ∷ []) → In y xs ⊎ (y ≡ x)
 snoc_in xs {x = x} i = elim (in_split i xs (x ∷ []) refl) [ inl a ↦ inl a | inr b ↦ inr (in_one b) ]
@@ -184,7 +184,7 @@ plain_false records k e = go (plain_value (records k)) refl
     go None q = q
     go (Some v) q = absurd (true_false (ap is_some q) e)
 
--- a shared value put behind the others
+-- a shared value put after the others
 pub pushed_value : (old new : List (Arc Value Global)) (x : Arc Value Global) (v : Value) → new ≡ old ++ x ∷ [] → arc_value x ≡ v → values new ≡ values old ++ v ∷ []
 pushed_value old new x v e h = ap values e ∙ behind old
   where
@@ -243,10 +243,19 @@ one_before records keys i k e positive within all c j m =
       | inr b ↦ all j (subst (λ n. In j (drop n keys)) back b)
     ]
 
--- no key stands behind the last
+-- no key is after the last
 pub none_behind : (records : Records) (keys : List Key) (j : Key) → In j (drop (length keys) keys) → IsClean records j
 none_behind records keys j m = absurd (not_in m (drop_all (length keys) keys (omega arith)))
 
 -- one more of a list
 pub taken_got : {X : Type 0} (xs : List X) (i : ℕ) (x : X) → slice_get xs i ≡ Some x → take (i + 1) xs ≡ take i xs ++ x ∷ []
 taken_got xs i x e = one_more xs i x (slice_get_within xs i x e) ∙ ap (λ y. take i xs ++ y ∷ []) (get_or_from_slice_get xs i x x e)
+
+-- a key of the front that is not settled is one of all keys
+pub front_finds : (records : Records) (all front back : List Key) (k : Key) → all ≡ front ++ back → FindsUnsettled records front (Some k) → FindsUnsettled records all (Some k)
+front_finds records all front back k is found = (subst (In k) (sym is) (in_left back found.0), found.1)
+
+-- where the front is settled, what is found after it is found among all keys
+pub back_finds : (records : Records) (all front back : List Key) (found : Option Key) → all ≡ front ++ back → FindsUnsettled records front None → FindsUnsettled records back found → FindsUnsettled records all found
+back_finds records all front back (Some k) is settled found = (subst (In k) (sym is) (in_right front found.0), found.1)
+back_finds records all front back None is settled none = λ j i. elim (in_split i front back is) [ inl a ↦ settled j a | inr b ↦ none j b ]

@@ -1,5 +1,5 @@
 //! The nodes that a round has opened and not settled yet, what there is to do with them, and what the graph holds of
-//! the members of their groups. Layer: engine, on base. Begin at `steps.rt`.
+//! the members of their groups. Begin at `steps.rt`.
 #![tactic(auto)]
 
 mod members;
@@ -9,7 +9,7 @@ mod steps;
 mod table;
 
 pub use members::{
-    answers_to, first_stop, is_settled, last_unsettled, share_all, unsettled_members,
+    answers_to, first_stop, is_settled, share_all, some_unsettled, unsettled_members,
 };
 pub use ready::ReadySet;
 pub use run::Run;

@@ -1,4 +1,4 @@
-//! What the graph holds of the members of a group.
+//! What the graph has of the members of a group.
 ghost use Rattle.std.specs.Prelude.{◌≡◌, IfOk};
 ghost use Rattle.std.specs.Option.{option_map, is_some};
 ghost use Rattle.std.specs.Arc.{arc_value};
@@ -46,9 +46,11 @@ pub fn unsettled_members(alloc: Global, graph: &Graph, group: &[Key]) -> Result<
     Ok(missing)
 }
 
-/// Returns the last of the keys that is not settled. Turns are handed out in the order of keys, so if the keys ascend,
-/// most others are settled before it.
-pub fn last_unsettled<'a>(graph: &Graph, keys: &'a [Key]) -> Option<&'a Key>
+/// Fewer keys than this are never halved.
+const FEW: usize = 16;
+
+// Returns the last of the keys that is not settled.
+fn last_unsettled<'a>(graph: &Graph, keys: &'a [Key]) -> Option<&'a Key>
     ensures { specs.FindsUnsettled (record_at graph.now) keys.now (option_map (λ k. k.now) result) }
 {
     for i in (0..keys.len()).rev() {
@@ -60,7 +62,24 @@ pub fn last_unsettled<'a>(graph: &Graph, keys: &'a [Key]) -> Option<&'a Key>
     None
 }
 
-/// Returns whether a value is a cycle.
+/// Returns one of the keys that is not settled, if there is one. Turns are handed out in the order of keys, so of keys
+/// that ascend the last is settled last. If it is not, the node that waited for it is visited again, with fewer keys.
+/// An odd number of many keys is therefore halved: a node is visited a few times until all are settled, from the first
+/// to the last or from the last to the first.
+pub fn some_unsettled<'a>(graph: &Graph, keys: &'a [Key]) -> Option<&'a Key>
+    ensures { specs.FindsUnsettled (record_at graph.now) keys.now (option_map (λ k. k.now) result) }
+{
+    if keys.len() < FEW || keys.len() % 2 == 0 {
+        return last_unsettled(graph, keys);
+    }
+    let (front, back) = keys.split_at(keys.len() / 2);
+    match last_unsettled(graph, front) {
+        Some(key) => Some(key),
+        None => last_unsettled(graph, back),
+    }
+}
+
+// Returns whether a value is a cycle.
 fn is_cycle(value: &Value) -> bool
     ensures { result ≡ specs.is_cycle value.now }
 {
@@ -70,7 +89,7 @@ fn is_cycle(value: &Value) -> bool
     }
 }
 
-// Returns the value of a key that is settled, and not as a cycle.
+// Returns the value of a key if it is settled, and not as a cycle.
 fn plain_value<'a>(graph: &'a Graph, key: &Key) -> Option<&'a Arc<Value>>
     ensures { option_map (λ v. arc_value v.now) result ≡ specs.plain_value
         (record_at graph.now key.now) }
@@ -88,7 +107,7 @@ fn is_plain(graph: &Graph, key: &Key) -> bool
     plain_value(graph, key).is_some()
 }
 
-/// Returns the first member of a group that is not settled with a value, or that is settled as a cycle.
+/// Returns the first member of a group that has no value, or that is settled as a cycle.
 pub fn first_stop<'a>(graph: &Graph, group: &'a [Key]) -> Option<&'a Key>
     ensures { specs.IsStop (record_at graph.now) group.now (option_map (λ k. k.now) result) }
 {

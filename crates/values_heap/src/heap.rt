@@ -23,18 +23,24 @@ use values_semantics::{Bytes, Entry, Key, Val, faults};
 /// The most bytes of a string, and members of a list, tuple or dictionary.
 pub const MAX_LENGTH: usize = 65536;
 
-/// The containers that a walk may enter inside one another.
+/// The number of containers, one inside another, that a walk may enter.
 pub const MAX_DEPTH: u32 = 64;
 
-/// The most bytes that the objects of one evaluation may take together, with the copies that loops go over. An object that
-/// has been given back does not count. Texts that are shared with a file or a module count too.
+/// The most bytes that the objects of one evaluation may take together, with the copies that loops iterate over. A
+/// freed object does not count. Texts that are shared with a file or a module count too.
 pub const MAX_BYTES: u64 = 268_435_456;
 
-// So many bytes are held before it is first looked for objects that are reached no more.
+// The number of charged bytes at which garbage is collected for the first time.
 const FIRST_FULL: u64 = 8_388_608;
 
-/// What the values of an evaluation stand on: the objects, the places of those that are iterated, and the steps that
-/// are left.
+/// The bytes that are made in the time in which a collection visits one place.
+const BYTES_A_PLACE: u64 = 64;
+
+/// The most bytes to which the places put off a collection, so that `MAX_BYTES` is kept.
+const MAX_BY_PLACES: u64 = 134_217_728;
+
+/// What the values of an evaluation are on: the objects, the places of those that are iterated, and the steps that are
+/// left.
 #[derive(Drop)]
 pub struct Heap {
     pub alloc: Global,
@@ -42,7 +48,7 @@ pub struct Heap {
     pub iterated: Vec<usize>,
     pub steps: u64,
     held: u64,
-    // So many bytes are enough to look for objects that are reached no more.
+    // The number of charged bytes at which garbage is collected next.
     full_at: u64,
 }
 
@@ -62,7 +68,7 @@ impl Heap {
         }
     }
 
-    /// Returns the object at a place, if one stands there, or `Memory` if it has been given back.
+    /// Returns the object at a place, if one is there, or `Memory` if it has been freed.
     #[inline(always)]
     pub fn object(&self, place: usize) -> Result<Option<ObjectRef<'_>>, Memory>
         ensures found { IfOk result (λ found. at place (store_of self.now) ≡ option_map seen_object
@@ -72,8 +78,8 @@ impl Heap {
         self.objects.object_ref(place)
     }
 
-    /// Takes the object at a place, to be changed and then put there again. Until then it counts as given back. Returns
-    /// `Memory` if it has been given back before, or if it is lent, which no program changes.
+    /// Takes the object at a place, to be changed and then put there again. Until then it counts as freed. Returns
+    /// `Memory` if it has been freed before, or if it is attached, since no program changes an attached object.
     #[inline(always)]
     pub fn take(&mut self, place: usize) -> Result<Option<Object>, Memory>
         ensures same { store_of self.new ≡ store_of self.old }
@@ -85,8 +91,8 @@ impl Heap {
         self.objects.take(place)
     }
 
-    /// Puts another object at a place, if one stands there. The bytes that it takes more are counted by `charge_members`
-    /// and `charge_entry`. Returns `Memory`, and puts nothing, if a lent one stands there, which no program changes.
+    /// Puts another object at a place, if one is there. `charge_members` and `charge_entry` charge the bytes that it
+    /// takes more. Returns `Memory`, and puts nothing, if an attached object is there, since no program changes one.
     #[inline(always)]
     pub fn put(&mut self, place: usize, object: Object) -> Result<(), Memory>
         ensures put { OnOk result (puts place (object_of object) (store_of self.old) ≡ gives tt
@@ -98,15 +104,15 @@ impl Heap {
         self.objects.put(place, object)
     }
 
-    /// Returns the bytes that the objects and the copies that loops go over count for. An object that has been given
-    /// back does not count.
+    /// Returns the bytes that are charged for the objects and for the copies that loops iterate over. A freed object
+    /// does not count.
     pub fn allocated_bytes(&self) -> u64
         ensures { result ≡ self.now.held }
     {
         self.held
     }
 
-    // Counts bytes that the objects are about to take. Returns `Memory` if they would take more than `MAX_BYTES`.
+    // Charges bytes that the objects are about to take. Returns `Memory` if they would take more than `MAX_BYTES`.
     #[inline(always)]
     fn charge(&mut self, bytes: u128) -> Result<(), Halt>
         ensures same { store_of self.new ≡ store_of self.old }
@@ -120,22 +126,25 @@ impl Heap {
         Ok(())
     }
 
-    /// Returns whether it is time to give back the objects that are reached no more.
+    /// Returns whether it is time to collect garbage.
     pub fn needs_collection(&self) -> bool
         ensures { result ≡ nat_le self.now.full_at self.now.held }
     {
         self.held >= self.full_at
     }
 
-    /// Puts off the next time to give back until twice as many bytes are held as now, and at least `FIRST_FULL`.
+    /// Puts off the next collection until twice as many bytes are allocated as now, and at least `FIRST_FULL`. A
+    /// collection visits all places that were ever made, so the threshold also grows by some bytes for each of them.
     pub(crate) fn set_threshold(&mut self)
         ensures same { store_of self.new ≡ store_of self.old }
         ensures held { self.new.held ≡ self.old.held }
     {
-        self.full_at = self.held.saturating_mul(2).max(FIRST_FULL);
+        let places = (self.objects.len() as u64).saturating_mul(BYTES_A_PLACE);
+        let by_places = self.held.saturating_add(places).min(MAX_BY_PLACES);
+        self.full_at = self.held.saturating_mul(2).max(FIRST_FULL).max(by_places);
     }
 
-    /// Counts members that a list is about to get, 16 bytes each. Returns `Memory` if the objects would take more than
+    /// Charges members that a list is about to get, 16 bytes each. Returns `Memory` if the objects would take more than
     /// `MAX_BYTES` bytes.
     #[inline(always)]
     pub fn charge_members(&mut self, number: usize) -> Result<(), Halt>
@@ -145,7 +154,7 @@ impl Heap {
         self.charge(number as u128 * MEMBER)
     }
 
-    /// Counts an entry that a dictionary is about to get, 96 bytes, as `charge_members` does.
+    /// Charges an entry that a dictionary is about to get, 96 bytes, as `charge_members` does.
     #[inline(always)]
     pub fn charge_entry(&mut self) -> Result<(), Halt>
         ensures same { store_of self.new ≡ store_of self.old }
@@ -154,7 +163,7 @@ impl Heap {
         self.charge(ENTRY)
     }
 
-    /// Counts the copy that a loop goes over of what stands at a place, as `charge_members` does.
+    /// Charges the copy that a loop iterates over of what is at a place, as `charge_members` does.
     pub fn charge_copy(&mut self, place: usize) -> Result<(), Halt>
         ensures same { store_of self.new ≡ store_of self.old }
         ensures counted { Counted (place_bytes place (store_of self.old)) self.old.held result
@@ -164,8 +173,8 @@ impl Heap {
         self.charge(bytes)
     }
 
-    /// Counts the copy that a loop went over no more. The object at the place must have kept its size since
-    /// `charge_copy`; else the count is wrong, and nothing but the count.
+    /// Refunds the copy that a loop iterated over. The object at the place must have kept its size since `charge_copy`;
+    /// otherwise the count is wrong, and nothing but the count.
     pub fn refund_copy(&mut self, place: usize)
         ensures same { store_of self.new ≡ store_of self.old }
         ensures counted { self.new.held ≡ self.old.held - place_bytes place (store_of self.old) }
@@ -174,7 +183,7 @@ impl Heap {
         self.release(bytes);
     }
 
-    // Counts bytes no more.
+    // Refunds bytes.
     pub(crate) fn release(&mut self, bytes: u128)
         ensures same { store_of self.new ≡ store_of self.old }
         ensures counted { self.new.held ≡ self.old.held - bytes }
@@ -204,12 +213,13 @@ impl Heap {
         Ok(Val::At(place))
     }
 
-    /// Lends objects to the heap: they stand behind all others, each value in them moved by as many. It takes as long for
-    /// many as for few. They count for nothing, since they are shared. Returns the place of the first.
+    /// Attaches objects to the heap. They are after all others, and the places that values in them name are moved by
+    /// the number of the others. The time does not depend on the number of attached objects. They count for nothing,
+    /// since they are shared. Returns the place of the first.
     ///
     /// # Errors
     ///
-    /// Returns `Memory`, and lends nothing, if an allocation fails, or for a place of more than 32 bits.
+    /// Returns `Memory`, and attaches nothing, if an allocation fails, or for a place of more than 32 bits.
     pub fn attach(&mut self, objects: &Arc<FrozenObjects, Global>) -> Result<u32, Memory>
         ensures first { IfOk result (λ first. first ≡ length (store_of self.old).heap) }
         ensures lent { OnOk result
