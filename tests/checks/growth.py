@@ -3,7 +3,7 @@ times as long. `--only TEXT` takes the kinds that have this text in their names.
 
 from collections.abc import Callable
 
-from harness.commands import Command, lines_of_commands, load, module, put
+from harness.commands import Command, delete, edit, lines_of_commands, load, module, put
 from harness.context import Context
 from harness.report import Report
 
@@ -68,6 +68,42 @@ def answered_globs(count: int) -> list[Command]:
     return [put("s/BUILD", text), load("s")]
 
 
+def globs_of_a_large_evaluation(count: int) -> list[Command]:
+    """So many globs with one include each, in an evaluation whose values take over 4 MiB."""
+    lists = "k = [list(range(65536)) for i in range(9)]\n"
+    text = f'{lists}x = [0 for i in range({count}) if glob(["a" + str(i)])]\n'
+    return [put("s/BUILD", text), load("s")]
+
+
+def excludes(count: int) -> list[Command]:
+    """A glob that finds so many files and excludes each by its name."""
+    names = f'["f" + str(i) for i in range({count})]'
+    files = [put(f"s/f{it}", "") for it in range(count)]
+    return [*files, put("s/BUILD", f'x = glob(["f*"], exclude = {names})\n'), load("s")]
+
+
+def removed_files(count: int) -> list[Command]:
+    """So many files of one directory, which are put and then removed."""
+    paths = [f"s/f{it}" for it in range(count)]
+    return [
+        *(put(path, "") for path in paths),
+        *(delete(path) for path in paths),
+        put("s/BUILD", ""),
+        load("s"),
+    ]
+
+
+def edits_of_one_file(count: int) -> list[Command]:
+    """So many files of one directory, and as many batches that change one file each."""
+    paths = [f"s/f{it}" for it in range(count)]
+    return [
+        *(put(path, "") for path in paths),
+        *(edit([put(path, "x")]) for path in paths),
+        put("s/BUILD", ""),
+        load("s"),
+    ]
+
+
 def globs_among_statements(count: int) -> list[Command]:
     """So many globs, each a statement, with as many other statements between them."""
     text = "".join(f'glob(["a{it}"])\n1\n' for it in range(count))
@@ -110,6 +146,10 @@ GROWTHS: dict[str, tuple[Callable[[int], list[Command]], int, str]] = {
     "includes of a glob in descending order": (includes_from_the_last, 16_384, EMPTY),
     "globs of one include": (globs, 3_000, EMPTY),
     "globs of includes that have answers": (answered_globs, 16_384, EMPTY),
+    "globs of a large evaluation": (globs_of_a_large_evaluation, 3_000, EMPTY),
+    "excludes of a glob": (excludes, 16_384, EMPTY),
+    "files that are removed": (removed_files, 50_000, EMPTY),
+    "edits of one file": (edits_of_one_file, 50_000, EMPTY),
     "globs among statements": (globs_among_statements, 4_500, EMPTY),
     "strings that nothing reaches": (short_strings, 20, '{"exports":["f"]}'),
     "names of a load": (loaded_names, 12_000, EMPTY),

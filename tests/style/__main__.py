@@ -1,8 +1,8 @@
 """Checks the house's rules of style that a program can check. Run it by `make lint`.
 
 Each rule is a file of this folder, which says what it asks for: `prose`, `links`, `example`,
-`sizes`, `contracts`, `names`, `imports`, `errors`, `layers` and `layout`. Words after the command
-name the rules to be checked; without one all are. It prints one line for each fault, as
+`sizes`, `signatures`, `contracts`, `names`, `imports`, `errors`, `layers` and `layout`. Words after
+the command name the rules to be checked; without one all are. It prints one line for each fault, as
 `path:line: what`, and fails where there is one.
 """
 
@@ -15,7 +15,7 @@ HERE = os.path.dirname(os.path.abspath(__file__))
 sys.path.insert(0, os.path.dirname(HERE))
 
 from style import contracts, errors, example, imports, layers, layout  # noqa: E402
-from style import links, names, prose, sizes  # noqa: E402
+from style import links, names, prose, signatures, sizes  # noqa: E402
 from style.tree import Tree  # noqa: E402
 
 RULES: dict[str, Callable[[Tree], Iterator[str]]] = {
@@ -23,6 +23,7 @@ RULES: dict[str, Callable[[Tree], Iterator[str]]] = {
     "links": links.check,
     "example": example.check,
     "sizes": sizes.check,
+    "signatures": signatures.check,
     "contracts": contracts.check,
     "names": names.check,
     "imports": imports.check,

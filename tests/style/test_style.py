@@ -17,7 +17,7 @@ HERE = os.path.dirname(os.path.abspath(__file__))
 sys.path.insert(0, os.path.dirname(HERE))
 
 from style import contracts, errors, example, imports, layers, layout  # noqa: E402
-from style import links, names, prose, sizes  # noqa: E402
+from style import links, names, prose, signatures, sizes  # noqa: E402
 from style.tree import Tree  # noqa: E402
 
 WORDS_40 = " ".join(["word"] * 40)
@@ -165,6 +165,47 @@ class SizeTest(RuleTest):
             self.breaks(
                 sizes.check, {path: f"\n@at\ndef f():\n{body}"}, f"{path}:2: f has 61 lines"
             )
+
+
+class SignatureTest(RuleTest):
+    """Parameters, contracts and bodies of functions."""
+
+    PATH = "crates/a/src/a.rt"
+
+    def of(self, text: str, *faults: str, table: str = "") -> None:
+        """Compares the faults of one source, beside a table of those that may be over."""
+        files = {self.PATH: text, signatures.TABLE: f"# a comment\n{table}"}
+        self.breaks(signatures.check, files, *faults)
+
+    def test_parameters(self) -> None:
+        def head(count: int) -> str:
+            given = ", ".join(f"x{at}: Vec<(u8, u8)>" for at in range(count))
+            return (
+                f"fn f<R: Fn(u8) -> u8, S>({given}, alloc: Global) -> Result<(), Memory> {{\n}}\n"
+            )
+
+        self.of(head(6))
+        fault = f"{self.PATH}:1: f: parameters of 7, of at most 6"
+        self.of(head(7), fault)
+        self.of(head(7), table="parameters 7 a/src/a.rt f\n")
+
+    def test_contracts(self) -> None:
+        def text(count: int) -> str:
+            return "fn f()\n" + "    ensures { a }\n" * count + "{\n    x\n}\n"
+
+        self.of(text(10))
+        self.of(text(11), f"{self.PATH}:1: f: contract of 11, of at most 10")
+
+    def test_bodies(self) -> None:
+        def text(count: int) -> str:
+            return "fn f()\n    ensures { a }\n{\n" + "    x;\n" * count + "}\n"
+
+        self.of(text(39))
+        self.of(text(41), f"{self.PATH}:1: f: body of 42, of at most 40")
+
+    def test_an_idle_line(self) -> None:
+        fault = f"{signatures.TABLE}:1: an idle line: body a/src/a.rt f"
+        self.of("fn f() {\n}\n", fault, table="body 50 a/src/a.rt f\n")
 
 
 class CrateTest(RuleTest):

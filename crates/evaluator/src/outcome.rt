@@ -4,6 +4,7 @@ ghost use Rattle.std.specs.Prelude.{◌≡◌};
 use crate::machine::{Environment, Machine};
 use base_types::Text;
 use evaluator_frames::Control;
+use evaluator_package_calls::answer_count;
 use std::marker::Model;
 use values_modules::{Functions, ModuleValue, Targets};
 
@@ -61,6 +62,9 @@ impl Model for Suspended {
 // How many bytes of values an evaluation may have that is kept while it waits.
 const MOST_KEPT: u64 = 4_194_304;
 
+// With at most so many answers an evaluation of more bytes is always given up.
+const FEW_ANSWERS: usize = 16;
+
 // Returns the same value, of a type that may go to another thread.
 fn crossing<T: Send>(value: T) -> T
     ensures { result ≡ value }
@@ -76,10 +80,15 @@ impl Suspended {
         crossing(self)
     }
 
-    /// Returns whether its values take so many bytes that it is better given up and begun again than kept. No outcome
-    /// hangs on that, so no contract says anything of it.
+    /// Returns whether it is better given up and begun again than kept, since its values take many bytes. With many answers
+    /// that is so only at powers of two, so that an evaluation of many globs is begun again a few times and not at each of
+    /// them. No outcome hangs on that, so no contract says anything of it.
     pub fn is_large(&self) -> bool {
-        self.machine.state.heap.allocated_bytes() > MOST_KEPT
+        if self.machine.state.heap.allocated_bytes() <= MOST_KEPT {
+            return false;
+        }
+        let answers = answer_count(&self.environment.package.answers);
+        answers <= FEW_ANSWERS || answers.is_power_of_two()
     }
 
     /// Returns the patterns that have no answer, in order.

@@ -7,21 +7,21 @@ use Rattle.values_semantics.specs.Comparing.{same_text}
 use Rattle.evaluator_semantics.specs.Names.{has_name}
 use Rattle.evaluator_semantics.specs.Environment.{Answers}
 use Rattle.evaluator_semantics.specs.Globs.{answer_to, found_or_none, queries_without_result}
-use Rattle.evaluator_package_calls.specs.GlobResults.{kept_of, found_all, with_unanswered}
+use Rattle.evaluator_package_calls.specs.GlobResults.{kept_unless, found_all, with_unanswered}
 use Rattle.values_builtins.proofs.Rows.{drop_item}
 
-kept-append : (excludes xs ys : List (List ℕ)) → kept_of excludes (xs ++ ys) ≡ kept_of excludes xs ++ kept_of excludes ys
+kept-append : (excludes : List ℕ → Bool) (xs ys : List (List ℕ)) → kept_unless excludes (xs ++ ys) ≡ kept_unless excludes xs ++ kept_unless excludes ys
 kept-append excludes xs ys = filter-append _ xs ys
 
-pub gathered_step : (answers : Answers) (excludes includes : List (List ℕ)) (i : ℕ) (p q : List ℕ) (done more whole : List (List ℕ)) → i < length includes → p ≡ get_or includes i p → q ≡ p
-    → more ≡ done ++ kept_of excludes (found_or_none (answer_to q answers)) → done ++ kept_of excludes (found_all answers (drop i includes)) ≡ whole → more ++ kept_of excludes (found_all answers (drop (i + 1) includes)) ≡ whole
+pub gathered_step : (answers : Answers) (excludes : List ℕ → Bool) (includes : List (List ℕ)) (i : ℕ) (p q : List ℕ) (done more whole : List (List ℕ)) → i < length includes → p ≡ get_or includes i p → q ≡ p
+    → more ≡ done ++ kept_unless excludes (found_or_none (answer_to q answers)) → done ++ kept_unless excludes (found_all answers (drop i includes)) ≡ whole → more ++ kept_unless excludes (found_all answers (drop (i + 1) includes)) ≡ whole
 gathered_step answers excludes includes i p q done more whole lt is same m inv =
     let found : List ℕ → List (List ℕ) = λ x. found_or_none (answer_to x answers) in
     let rest = found_all answers (drop (i + 1) includes) in
-    ap (λ l. l ++ kept_of excludes rest) (m ∙ ap (λ x. done ++ kept_of excludes (found x)) same)
-    ∙ append_assoc done (kept_of excludes (found p)) (kept_of excludes rest)
+    ap (λ l. l ++ kept_unless excludes rest) (m ∙ ap (λ x. done ++ kept_unless excludes (found x)) same)
+    ∙ append_assoc done (kept_unless excludes (found p)) (kept_unless excludes rest)
     ∙ ap (λ l. done ++ l) (sym (kept-append excludes (found p) rest))
-    ∙ ap (λ ps. done ++ kept_of excludes (found_all answers ps)) (sym (drop_item includes i p lt is))
+    ∙ ap (λ ps. done ++ kept_unless excludes (found_all answers ps)) (sym (drop_item includes i p lt is))
     ∙ inv
 
 pub has-append : (x : List ℕ) (xs ys : List (List ℕ)) → has_name x (xs ++ ys) ≡ (has_name x xs || has_name x ys)

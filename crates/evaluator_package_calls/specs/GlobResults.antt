@@ -1,10 +1,14 @@
 -- What a call of `glob` collects: paths, and patterns without an answer.
-use Rattle.std.specs.Prelude.{ℕ, List, [], ◌∷◌, ◌++◌, map, filter, flat_map, not, is_some, ◌||◌, if◌then◌else◌}
+use Rattle.std.specs.Prelude.{ℕ, Bool, List, [], ◌∷◌, ◌++◌, map, filter, flat_map, not, is_some, ◌||◌, if◌then◌else◌}
 use Rattle.labels.specs.Paths.{segments}
 use Rattle.pattern.specs.Globs.{some_matches}
 use Rattle.evaluator_semantics.specs.Names.{has_name}
 use Rattle.evaluator_semantics.specs.Environment.{Answers}
 use Rattle.evaluator_semantics.specs.Globs.{answer_to, found_or_none}
+
+-- the paths that do not pass a test
+abbrev pub kept_unless : (List ℕ → Bool) → List (List ℕ) → List (List ℕ)
+kept_unless test paths = filter (λ path. not (test path)) paths
 
 -- the paths that no pattern matches
 abbrev pub kept_of : List (List ℕ) → List (List ℕ) → List (List ℕ)

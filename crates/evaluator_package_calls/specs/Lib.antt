@@ -1,4 +1,5 @@
 pub mod AnswerTables
+pub mod Excluding
 pub mod Fields
 pub mod Lists
 pub mod RuleArguments

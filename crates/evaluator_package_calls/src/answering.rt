@@ -1,7 +1,5 @@
 //! The result of a call of `glob`.
-ghost use Rattle.std.specs.Prelude.{◌≡◌, ◌++◌, [], map, IfOk, OnOk};
-ghost use Rattle.labels.specs.Paths.{segments};
-ghost use Rattle.pattern.specs.Globs.{some_matches};
+ghost use Rattle.std.specs.Prelude.{◌≡◌, ◌++◌, [], IfOk, OnOk};
 ghost use Rattle.values_semantics.specs.Methods.{makes_texts};
 ghost use Rattle.values_semantics.specs.Heap.{makes_text};
 ghost use Rattle.evaluator_semantics.specs.Names.{has_name};
@@ -9,10 +7,12 @@ ghost use Rattle.evaluator_semantics.specs.Sorting.{in_order};
 ghost use Rattle.evaluator_semantics.specs.Globs as globs;
 ghost use Rattle.evaluator_semantics.specs.Globs.{answer_to, found_or_none, makes_paths};
 ghost use Rattle.values_heap.specs.View.{store_of, Says, SaysItems};
-ghost use Rattle.evaluator_package_calls.specs.GlobResults.{kept_of, found_all, with_unanswered};
+ghost use Rattle.evaluator_package_calls.specs.GlobResults.{kept_of, kept_unless, found_all, with_unanswered};
+ghost use Rattle.evaluator_package_calls.specs.Excluding.{is_excluded};
 ghost use Rattle.evaluator_package_calls.specs.AnswerTables.{HasTexts};
 
 use crate::answers::Answers;
+use crate::excludes::Excludes;
 use crate::ordering::in_order;
 use base_types::{Memory, Text};
 use pattern::Pattern;
@@ -121,7 +121,8 @@ pub fn glob_paths(
     ensures { IfOk result (λ v. v.items ≡ in_order (λ path. path)
         (kept_of excludes.now (found_all answers.now questions.now))) }
 {
-    let all = matching_paths(alloc, answers, questions, excludes)?;
+    let sorted = Excludes::new(alloc, excludes)?;
+    let all = matching_paths(alloc, answers, questions, &sorted)?;
     in_order(alloc, all.as_slice())
 }
 
@@ -130,10 +131,11 @@ fn matching_paths(
     alloc: Global,
     answers: &Answers,
     questions: &[Text],
-    excludes: &[Pattern],
+    excludes: &Excludes,
 ) -> Result<Vec<Text>, Memory>
     ensures { IfOk result
-        (λ v. v.items ≡ kept_of excludes.now (found_all answers.now questions.now)) }
+        (λ v. v.items ≡ kept_unless (is_excluded excludes.now) (found_all answers.now
+        questions.now)) }
 {
     let mut all = Vec::new(alloc);
     for question in questions {
@@ -147,9 +149,9 @@ fn add_found(
     all: &mut Vec<Text>,
     answers: &Answers,
     question: &Text,
-    excludes: &[Pattern],
+    excludes: &Excludes,
 ) -> Result<(), Memory>
-    ensures { OnOk result (all.new.items ≡ all.old.items ++ kept_of excludes.now
+    ensures { OnOk result (all.new.items ≡ all.old.items ++ kept_unless (is_excluded excludes.now)
         (found_or_none (answer_to question.now answers.now))) }
 {
     match answers.answer(question) {
@@ -162,27 +164,16 @@ fn add_found(
 }
 
 // Adds the paths that no pattern matches.
-fn add_paths(all: &mut Vec<Text>, paths: &[Text], excludes: &[Pattern]) -> Result<(), Memory>
-    ensures { OnOk result (all.new.items ≡ all.old.items ++ kept_of excludes.now paths.now) }
+fn add_paths(all: &mut Vec<Text>, paths: &[Text], excludes: &Excludes) -> Result<(), Memory>
+    ensures { OnOk result (all.new.items ≡ all.old.items ++ kept_unless (is_excluded
+        excludes.now) paths.now) }
 {
     for path in paths {
-        if !some_matches(excludes, path.as_str()) {
+        if !excludes.some_matches(path) {
             all.push(path.share()?)?;
         }
     }
     Ok(())
-}
-
-// Returns whether some pattern matches a path.
-fn some_matches(patterns: &[Pattern], path: &str) -> bool
-    ensures { result ≡ some_matches (map segments patterns.now) path.now }
-{
-    for pattern in patterns {
-        if pattern.matches(path) {
-            return true;
-        }
-    }
-    false
 }
 
 /// Makes a new list of paths, or returns fault 22 or 13.

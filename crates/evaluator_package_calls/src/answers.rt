@@ -121,6 +121,13 @@ impl Answers {
         Ok(())
     }
 
+    // Returns the answers.
+    pub(crate) fn results(&self) -> &[GlobResult]
+        ensures { answers_of result.now ≡ self.now }
+    {
+        self.results.as_slice()
+    }
+
     /// Returns the paths that answer a question, if it has an answer. The cost does not depend on the number of
     /// answers.
     pub fn answer(&self, question: &Text) -> Option<&[Text]>

@@ -6,6 +6,8 @@ mod answers;
 mod arguments;
 mod attributes;
 mod by_name;
+mod counting;
+mod excludes;
 mod fields;
 mod globbing;
 mod kinds;
@@ -17,6 +19,7 @@ mod strings;
 mod targets;
 
 pub use answers::{Answers, GlobResult};
+pub use counting::answer_count;
 pub use kinds::{CallResult, Package};
 pub use rules::package_call;
 pub use targets::targets_made;

@@ -18,17 +18,15 @@ const FEW: usize = 16;
 /// The most bytes of a short name.
 const SHORT: usize = 32;
 
-// Returns whether two names are the same. Most names are short, and the bytes of those are compared one by one.
-fn is_same(x: &Text, y: &Text) -> bool
-    ensures { result ≡ same_text x.now y.now }
+/// Returns whether two names are the same. Most names are short, and the bytes of those are compared one by one.
+pub(crate) fn same_bytes(a: &[u8], b: &[u8]) -> bool
+    ensures { result ≡ same_text a.now b.now }
 {
-    let a = x.as_str().as_bytes();
-    let b = y.as_str().as_bytes();
     if a.len() != b.len() {
         return false;
     }
     if a.len() > SHORT {
-        return *x == *y;
+        return a == b;
     }
     for i in 0..a.len() {
         if a[i] != b[i] {
@@ -36,6 +34,12 @@ fn is_same(x: &Text, y: &Text) -> bool
         }
     }
     true
+}
+
+fn is_same(x: &Text, y: &Text) -> bool
+    ensures { result ≡ same_text x.now y.now }
+{
+    same_bytes(x.as_str().as_bytes(), y.as_str().as_bytes())
 }
 
 // Returns the first place of a name.
@@ -103,12 +107,12 @@ fn index_of(alloc: Global, slots: &[Slot]) -> Result<Option<IndexSet<Text>>, Mem
         (λ o. IfSome o (λ s. (s.keys ≡ names_in slots.now)
         × (differ (names_in slots.now) ≡ true))) }
 {
-    let mut index = IndexSet::new(alloc);
+    let mut index = IndexSet::with_capacity(alloc, slots.len())?;
     for slot in slots.iter() {
-        if index.contains(&slot.name) {
+        let is_new = index.insert(slot.name.share()?)?;
+        if !is_new {
             return Ok(None);
         }
-        index.insert(slot.name.share()?)?;
     }
     Ok(Some(index))
 }

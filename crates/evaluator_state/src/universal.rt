@@ -3,6 +3,7 @@ ghost use Rattle.std.specs.Prelude.{◌≡◌};
 ghost use Rattle.values_semantics.specs.Builtins.{plain_functions, package_functions};
 ghost use Rattle.evaluator_semantics.specs.Names.{first_named, universal, is_native};
 
+use crate::places::same_bytes;
 use base_types::Text;
 use syntax_grammar::FileKind;
 use values_semantics::{Builtin, PACKAGE, PLAIN};
@@ -11,8 +12,9 @@ use values_semantics::{Builtin, PACKAGE, PLAIN};
 fn first_named(x: &Text, functions: &[Builtin]) -> Option<Builtin>
     ensures { result ≡ first_named x.now functions.now }
 {
+    let name = x.as_str().as_bytes();
     for f in functions.iter() {
-        if x.as_str().as_bytes() == f.name().as_bytes() {
+        if same_bytes(name, f.name().as_bytes()) {
             return Some(*f);
         }
     }

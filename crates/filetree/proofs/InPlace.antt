@@ -1,11 +1,12 @@
 -- A folder written in place, after a name of a folder.
-use Rattle.std.proofs.Common.{◌≡◌, ◌∙◌, ap, sym, refl, arith, ℕ, ◌<◌, Bool, true, false, cond, ◌&&◌, List, [], ◌∷◌, ◌++◌, length, Option, Some}
-use Rattle.std.specs.Prelude.{bytes_eq, flat_map, nat_lt, Result, Ok, Err, OnOk, OnErr}
-use Rattle.std.specs.Map.{lookup, set_value}
+use Rattle.std.proofs.Common.{◌≡◌, ◌∙◌, ap, sym, refl, arith, ℕ, ◌<◌, Bool, true, false, cond, not, ◌==◌, ◌&&◌, List, [], ◌∷◌, ◌++◌, length, Option, Some, None}
+use Rattle.std.specs.Prelude.{bytes_eq, flat_map, nat_lt, Result, Ok, Err, OnOk, OnErr, MatchResult, ⊤}
+use Rattle.std.specs.Map.{lookup, remove_entry, set_value}
 use Rattle.std.specs.List.{list_all}
 use Rattle.std.specs.Bool.{MatchBool}
-use Rattle.std.proofs.lemmas.Bool.{and_parts, and_from, lt-ltb, false≢true}
+use Rattle.std.proofs.lemmas.Bool.{ne_eqb, and_parts, and_from, lt-ltb, false≢true}
 use Rattle.filetree.specs.Folders.{Entries, Below, behind, has_no_slash, is_inner, text_at}
+use Rattle.filetree.specs.Removals.{has_files}
 use Rattle.filetree.proofs.Levels.{some_entry}
 use Rattle.filetree.proofs.Slashes.{own_bytes}
 
@@ -58,3 +59,25 @@ by_true A B false is h = absurd (false≢true is)
 pub by_false : (A B : Type 0) (b : Bool) → b ≡ false → MatchBool b A B → B
 by_false A B true is h = absurd (false≢true (sym is))
 by_false A B false is h = h
+
+-- a folder that is written and then taken away
+
+pub removed_set : (test : List ℕ → Bool) (es : List (List ℕ × Below)) (w : Below) → remove_entry test (set_value test es w) ≡ remove_entry test es
+removed_set test [] w = refl
+removed_set test (e ∷ es) w =
+    (elim (test e.0) as (λ b. test e.0 ≡ b → remove_entry test (cond b ((e.0, w) ∷ es) (e ∷ set_value test es w)) ≡ cond b es (e ∷ remove_entry test es)) [
+      | true ↦ λ h. ap (λ b. cond b es ((e.0, w) ∷ remove_entry test es)) h
+      | false ↦ λ h. ap (λ b. cond b (set_value test es w) (e ∷ remove_entry test (set_value test es w))) h ∙ ap (λ x. e ∷ x) (removed_set test es w)
+    ] refl)
+
+-- a folder without files has no text
+no_text_in : (es : Entries) (r : List ℕ) → not (length es == 0) ≡ false → text_at es r ≡ None
+no_text_in [] r none = refl
+no_text_in (e ∷ es) r none = absurd (false≢true (sym none ∙ ap not (ne_eqb (length (e ∷ es)) 0 (λ n. omega (arith, n)))))
+
+pub no_text : (b : Below) (r : List ℕ) → has_files b ≡ false → text_at b.entries r ≡ None
+no_text b r none = no_text_in b.entries r none
+
+pub on_ok_by : {A E : Type 0} {P Q : A → Type 0} (r : Result A E) → ((a : A) → P a → Q a) → MatchResult r P (λ _. ⊤) → MatchResult r Q (λ _. ⊤)
+on_ok_by (Ok a) f h = f a h
+on_ok_by (Err e) f h = tt

@@ -1,5 +1,5 @@
 //! Changes of files, one or several together.
-ghost use Rattle.std.specs.Prelude.{◌≡◌};
+ghost use Rattle.std.specs.Prelude.{◌≡◌, [], ◌∷◌};
 ghost use Rattle.filetree.specs.Changes as specs;
 ghost use Rattle.filetree.specs.Edits.{Edits, refusal_of};
 ghost use Rattle.filetree.specs.ChangeView.{change_seen, changes_seen};
@@ -67,13 +67,27 @@ impl Tree {
         Ok(())
     }
 
+    // Makes one change, as if alone among several.
+    fn change_alone(&mut self, edit: &Change<'_>) -> Result<(), BatchError>
+        ensures { specs.EditsAll result (specs.changes_refusal (change_seen edit.now ∷ []) self.old)
+            self.old (specs.files_after_change (change_seen edit.now) self.old) self.new }
+    {
+        match self.change(edit) {
+            Ok(()) => Ok(()),
+            Err(error) => Err(refused_at(0, &error)),
+        }
+    }
+
     /// Makes all of these changes in their order, or none. A change is refused as `put` and `del` refuse it on the
-    /// files after the changes before it. If a change is refused or an allocation fails, nothing changes. Folders are
-    /// shared with the tree as it was, so the cost depends on the changed paths alone.
+    /// files after the changes before it. If a change is refused or an allocation fails, nothing changes. One change is
+    /// made in place; of several, each makes new the folders on its path that no change before it made.
     pub fn apply_all(&mut self, edits: &[Change<'_>]) -> Result<(), BatchError>
         ensures { specs.EditsAll result (specs.changes_refusal (changes_seen edits.now) self.old)
             self.old (specs.all_changed (changes_seen edits.now) self.old) self.new }
     {
+        if edits.len() == 1 {
+            return self.change_alone(&edits[0]);
+        }
         let mut changed = self.copy()?;
         changed.change_each(edits)?;
         *self = changed;

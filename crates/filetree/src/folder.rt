@@ -5,6 +5,7 @@ ghost use Rattle.std.specs.Map.{lookup};
 ghost use Rattle.std.specs.Bool.{MatchBool};
 ghost use Rattle.filetree.specs.Folders as levels;
 ghost use Rattle.filetree.specs.NameMaps as names;
+ghost use Rattle.filetree.specs.Removals as removals;
 ghost use Rattle.filetree.specs.Listings.{names_in};
 ghost use Rattle.filetree.specs.ListingView.{names_seen};
 
@@ -318,6 +319,25 @@ impl Folder {
         let inner = Folder::of_one(alloc, rest, text)?;
         self.folders.put(alloc, name, Arc::new(alloc, inner)?)
     }
+
+    // Removes the file at a path in place, and returns whether the folder has files left.
+    #[cycle(del_shared)]
+    fn del_file(&mut self, alloc: Global, path: &str) -> Result<bool, Memory>
+        ensures ok { IfOk result (λ left. (left ≡ removals.has_files self.new) × removals.LosesFile
+            path.now self.old self.new) }
+        ensures err { OnErr result (self.new.entries ≡ self.old.entries) }
+    {
+        let Some((name, rest)) = split_name(path) else {
+            self.files.remove(path);
+            return Ok(!self.is_empty());
+        };
+        let left = del_in_folder(&mut self.folders, alloc, name, rest)?;
+        if left {
+            return Ok(!self.is_empty());
+        }
+        self.folders.remove(name);
+        Ok(!self.is_empty())
+    }
 }
 
 // Puts a text at a path into the folder at a name, if there is one, and returns whether there is.
@@ -375,4 +395,56 @@ pub(crate) fn put_shared(
     let new = shared.put(alloc, path, text)?;
     *shared = Arc::new(alloc, new)?;
     Ok(())
+}
+
+// Removes the file at a path of the folder at a name, and returns whether that folder is there and has files left.
+#[cycle(del_shared)]
+fn del_in_folder(
+    folders: &mut NameMap<Folder>,
+    alloc: Global,
+    name: &str,
+    rest: &str,
+) -> Result<bool, Memory>
+    requires { names.is_ascending (names.folder_entries folders.old) ≡ true }
+    ensures ok { IfOk result (λ left. MatchBool left (levels.Rewrites name.now
+        (removals.LosesOneFile rest.now) (names.folder_entries folders.old) (names.folder_entries
+        folders.new)) (removals.LosesFolder name.now rest.now (names.folder_entries folders.old)
+        (names.folder_entries folders.new))) }
+    ensures err { OnErr result (levels.Rewrites name.now (λ before after. after.entries
+        ≡ before.entries) (names.folder_entries folders.old) (names.folder_entries folders.new)) }
+{
+    match folders {
+        NameMap::Few(list) => match find_name(list, name) {
+            Ok(at) => del_shared(&mut list[at].1, alloc, rest),
+            Err(_) => Ok(false),
+        },
+        NameMap::Many(map) => match map.get_mut(name) {
+            Some(shared) => del_shared(shared, alloc, rest),
+            None => Ok(false),
+        },
+    }
+}
+
+/// Removes the file at a path, and returns whether the folder has files left. The folders on the way are changed in
+/// place where they are not shared, and copied elsewhere.
+#[cycle(del_shared)]
+pub(crate) fn del_shared(
+    shared: &mut Arc<Folder>,
+    alloc: Global,
+    path: &str,
+) -> Result<bool, Memory>
+    ensures ok { IfOk result (λ left. (left ≡ removals.has_files shared.new.value)
+        × removals.LosesFile path.now shared.old.value shared.new.value) }
+    ensures err { OnErr result (shared.new.value.entries ≡ shared.old.value.entries) }
+{
+    if let Some(folder) = Arc::get_mut(shared) {
+        return folder.del_file(alloc, path);
+    }
+    let new = match shared.del(alloc, path)? {
+        Some(folder) => folder,
+        None => Folder::new(alloc),
+    };
+    let left = !new.is_empty();
+    *shared = Arc::new(alloc, new)?;
+    Ok(left)
 }

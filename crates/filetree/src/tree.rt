@@ -9,7 +9,7 @@ ghost use Rattle.filetree.specs.Listings.{listing};
 ghost use Rattle.filetree.specs.ListingView.{names_seen};
 
 use crate::error::TreeError;
-use crate::folder::{Folder, put_shared};
+use crate::folder::{Folder, del_shared, put_shared};
 use crate::listing::Listing;
 use base_types::{Memory, Text};
 use labels::is_path;
@@ -20,7 +20,7 @@ use std::sync::Arc;
 const TEXT_LIMIT: usize = 262_144;
 
 /// The files: texts by their paths. A contract sees a finite map from the bytes of paths to the bytes of texts. A
-/// directory exists exactly when a file lies below it. Copies share their folders: a put changes the folders on its
+/// directory exists exactly when a file lies below it. Copies share their folders: an edit changes the folders on its
 /// path in place where no copy has them, and else makes new ones and shares all others.
 #[derive(Drop)]
 pub struct Tree {
@@ -62,23 +62,17 @@ fn put_in_root(
     Ok(())
 }
 
-// Returns the first folder without the text at a path, if anything is left.
-fn root_without(
-    alloc: Global,
-    root: &Option<Arc<Folder>>,
-    path: &str,
-) -> Result<Option<Arc<Folder>>, Memory>
-    ensures { IfOk result (λ new. (other : List ℕ) → levels.text_at (levels.entries_of new) other
-        ≡ (if bytes_eq path.now other then None else levels.text_at (levels.entries_of root.now)
+// Removes the file at a path below the first folder.
+fn del_in_root(root: &mut Option<Arc<Folder>>, alloc: Global, path: &str) -> Result<(), Memory>
+    ensures ok { OnOk result ((other : List ℕ) → levels.text_at (levels.entries_of root.new) other
+        ≡ (if bytes_eq path.now other then None else levels.text_at (levels.entries_of root.old)
         other)) }
+    ensures err { OnErr result (levels.entries_of root.new ≡ levels.entries_of root.old) }
 {
-    let Some(root) = root else {
-        return Ok(None);
-    };
-    match root.del(alloc, path)? {
-        Some(left) => Ok(Some(Arc::new(alloc, left)?)),
-        None => Ok(None),
+    if let Some(shared) = root {
+        let _ = del_shared(shared, alloc, path)?;
     }
+    Ok(())
 }
 
 impl Tree {
@@ -195,8 +189,7 @@ impl Tree {
             self.old (map.remove self.old path.now) self.new }
     {
         self.test_del(path)?;
-        let root = root_without(self.alloc, &self.root, path)?;
-        self.root = root;
+        del_in_root(&mut self.root, self.alloc, path)?;
         Ok(())
     }
 }

@@ -1,3 +1,4 @@
 pub mod Ancestors
 pub mod Cuts
 pub mod Segments
+pub mod Reading

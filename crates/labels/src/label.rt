@@ -1,10 +1,11 @@
 //! Labels: names of targets and of module files.
-ghost use Rattle.std.specs.Prelude.{◌≡◌, ℕ, List, IfOk, IsTrue, IsErrOf, None, Some, option_map};
+ghost use Rattle.std.specs.Prelude.{◌≡◌, ◌+◌, ◌≤◌, ℕ, List, length, IfOk, IsTrue, IsErrOf, None, Some, option_map};
 ghost use Rattle.std.specs.List.{after_last};
 ghost use Rattle.labels.specs.Labels as labels;
 ghost use Rattle.labels.specs.Paths.{is_path};
 
 use crate::path::{is_package_name, is_path};
+use arrayvec::ArrayString;
 use base_types::{Memory, Text};
 use std::alloc::{AllocError, Global};
 use std::marker::Model;
@@ -105,12 +106,32 @@ fn join_parts(alloc: Global, package_name: &str, name: &str) -> Result<Text, Mem
     Text::from_string(alloc, path)
 }
 
+// The most bytes of a label's text that is put together without a string of its own.
+const SHORT: usize = 128;
+
+// Returns the text of the label of a target that is short.
+fn short_text(alloc: Global, package_name: &str, name: &str) -> Result<Text, Memory>
+    requires { length package_name.now + length name.now ≤ 125 }
+    ensures { IfOk result
+        (λ t. t ≡ labels.label_text (record { package_name = package_name.now; name = name.now })) }
+{
+    let mut text = ArrayString::<SHORT>::new();
+    text.push_str("//");
+    text.push_str(package_name);
+    text.push_str(":");
+    text.push_str(name);
+    Text::new(alloc, text.as_str())
+}
+
 // Returns the text of the label of a target.
 fn absolute_text(alloc: Global, package_name: &str, name: &str) -> Result<Text, Memory>
     ensures { IfOk result
         (λ t. t ≡ labels.label_text (record { package_name = package_name.now; name = name.now })) }
 {
     let room = package_name.len().saturating_add(name.len());
+    if room <= SHORT - 3 {
+        return short_text(alloc, package_name, name);
+    }
     let mut text = String::with_capacity(alloc, room.saturating_add(3))?;
     text.push_str("//")?;
     text.push_str(package_name)?;

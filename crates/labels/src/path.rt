@@ -1,6 +1,7 @@
 //! Paths of files and names of packages.
 ghost use Rattle.std.specs.Prelude.{◌≡◌, IsTrue, IfOk, IsErrOf, false};
 ghost use Rattle.labels.specs.Paths as paths;
+ghost use Rattle.labels.specs.Reading.{read_byte};
 
 use base_types::{Memory, Text};
 use std::alloc::Global;
@@ -13,24 +14,48 @@ fn is_name_byte(byte: u8) -> bool
     matches!(byte, b'0'..=b'9' | b'A'..=b'Z' | b'a'..=b'z' | b'_' | b'-' | b'.')
 }
 
-fn is_segment(name: &str) -> bool
-    ensures { result ≡ paths.is_segment name.now }
+// What is known of a segment of which the last bytes were read: there are none, they are `.`, they are `..`, or with
+// more bytes in front of them they are a segment.
+const EMPTY: u8 = 0;
+
+const NAME: u8 = 3;
+
+// Reads a byte in front of those of a segment. Returns what is known of the segment then, or of an empty one before it,
+// or none if the bytes are not those of a path.
+#[inline(always)]
+fn read_byte(byte: u8, found: u8) -> Option<u8>
+    ensures { result ≡ read_byte byte found }
 {
-    if name.is_empty() || name == "." || name == ".." {
-        return false;
+    if byte == b'/' {
+        return if found == NAME { Some(EMPTY) } else { None };
     }
-    name.bytes().all(is_name_byte)
+    if !is_name_byte(byte) {
+        return None;
+    }
+    if byte == b'.' && found < 2 {
+        return Some(found + 1);
+    }
+    Some(NAME)
 }
 
 /// Returns whether the text is a path: segments joined by `/`, at most 255 bytes. A segment is one or more of ASCII
-/// letters, digits, `_`, `-` and `.`, and is neither `.` nor `..`.
+/// letters, digits, `_`, `-` and `.`, and is neither `.` nor `..`. The bytes are read once, from the last.
 pub fn is_path(text: &str) -> bool
     ensures { result ≡ paths.is_path text.now }
 {
     if text.len() > 255 {
         return false;
     }
-    text.split('/').all(is_segment)
+    let bytes = text.as_bytes();
+    let mut found = EMPTY;
+    for i in (0..bytes.len()).rev() {
+        let byte = bytes[i];
+        match read_byte(byte, found) {
+            Some(next) => found = next,
+            None => return false,
+        }
+    }
+    found == NAME
 }
 
 /// Returns whether the text names a package or a directory: a path, or the empty text for the root.
@@ -72,6 +97,7 @@ pub struct Path {
 impl Model for Path {
     ghost use Rattle.std.specs.Prelude.{ℕ, List, IsTrue};
     ghost use Rattle.labels.specs.Paths as paths;
+    ghost use Rattle.labels.specs.Reading.{read_byte};
 
     ghost Value = { List ℕ };
 

@@ -7,3 +7,4 @@ pub mod WalkFinds
 pub mod Answer
 pub mod Directories
 pub mod Questions
+pub mod Starless

@@ -4,3 +4,4 @@ pub mod Pieces
 pub mod Parts
 pub mod Rest
 pub mod Globs
+pub mod Starless

@@ -1,8 +1,9 @@
 //! Patterns of paths.
-ghost use Rattle.std.specs.Prelude.{◌≡◌, ◌||◌, ◌∷◌, false, IfOk, IsErrOf, IsTrue};
+ghost use Rattle.std.specs.Prelude.{◌≡◌, ◌||◌, ◌∷◌, ℕ, List, false, not, bytes_eq, IfOk, IsErrOf, IsTrue};
 ghost use Rattle.labels.specs.Paths.{is_name_byte, segments};
 ghost use Rattle.pattern.specs.Patterns as patterns;
 ghost use Rattle.pattern.specs.Rest.{rest_segments};
+ghost use Rattle.pattern.specs.Starless.{is_starless};
 
 use crate::walk::segments_match;
 use base_types::{Memory, Text};
@@ -50,6 +51,18 @@ fn is_pattern_byte(byte: u8) -> bool
     ensures { result ≡ is_name_byte byte || patterns.is_star byte }
 {
     matches!(byte, b'0'..=b'9' | b'A'..=b'Z' | b'a'..=b'z' | b'_' | b'-' | b'.' | b'*')
+}
+
+fn is_no_star(byte: u8) -> bool
+    ensures { result ≡ not (patterns.is_star byte) }
+{
+    byte != b'*'
+}
+
+fn has_no_star(text: &str) -> bool
+    ensures { result ≡ is_starless text.now }
+{
+    text.bytes().all(is_no_star)
 }
 
 fn is_pattern_segment(segment: &str) -> bool
@@ -114,6 +127,15 @@ impl Pattern {
         ensures pattern { IsTrue (patterns.is_pattern self.now) }
     {
         &self.text
+    }
+
+    /// Returns whether the pattern has no `*`. It then matches the path that is its text, and no other.
+    pub fn is_starless(&self) -> bool
+        ensures value { result ≡ is_starless self.now }
+        ensures path { IsTrue result → (path : List ℕ) → patterns.path_matches (segments self.now)
+            (segments path) ≡ bytes_eq self.now path }
+    {
+        has_no_star(self.text.as_str())
     }
 
     /// Returns whether the pattern matches the path: `*` matches zero or more bytes inside a segment, and `**` zero or

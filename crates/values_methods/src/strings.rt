@@ -1,4 +1,5 @@
 //! The methods of strings.
+ghost use Rattle.std.specs.Prelude.{◌≤◌, length};
 ghost use Rattle.values_semantics.specs.Heap.{makes_text};
 ghost use Rattle.values_semantics.specs.Methods.{bytes_of, all_bytes, joins_items, makes_texts, replace};
 ghost use Rattle.values_methods.specs.Cases.{only_text, split_only, of_text};
@@ -8,9 +9,13 @@ ghost use Rattle.values_heap.specs.View.{store_of, Says, SaysItems};
 use crate::names::{is_name, no_arguments};
 use crate::spaces::{ends_with, starts_with, strip};
 use crate::splitting::{join_parts, split_parts};
-use values_heap::{Halt, Heap, MAX_LENGTH, ObjectRef, Val};
+use base_types::Text;
+use values_heap::{Bytes, Halt, Heap, MAX_LENGTH, Object, ObjectRef, Val};
 use values_operators::items;
 use values_semantics::faults;
+
+// The most bytes of a text that are in the text itself.
+const SHORT: usize = 14;
 
 /// Calls a method of a string, or returns fault 5, 13 or 25.
 pub fn text_method(heap: &mut Heap, whole: &[u8], name: &str, xs: &[Val]) -> Result<Val, Halt>
@@ -78,10 +83,24 @@ fn texts_at<'a>(heap: &'a Heap, xs: &[Val]) -> Result<Vec<&'a [u8]>, Halt>
     Ok(all)
 }
 
-// Makes a string of these bytes, or returns fault 13.
+// Makes a string of a short text.
+fn make_short(heap: &mut Heap, text: &str) -> Result<Val, Halt>
+    requires { length text.now ≤ 14 }
+    ensures { Says (makes_text text.now (store_of heap.old)) result (store_of heap.new) }
+{
+    let text = Text::new(heap.alloc, text)?;
+    heap.make(Object::Text(Bytes::of_text(text)))
+}
+
+// Makes a string of these bytes, or returns fault 13. A short one takes no memory beside its place.
 fn make_copy(heap: &mut Heap, bytes: &[u8]) -> Result<Val, Halt>
     ensures { Says (makes_text bytes.now (store_of heap.old)) result (store_of heap.new) }
 {
+    if bytes.len() <= SHORT {
+        if let Ok(text) = std::str::from_utf8(bytes) {
+            return make_short(heap, text);
+        }
+    }
     let copy = Vec::from_slice(heap.alloc, bytes)?;
     heap.make_text(copy)
 }

@@ -1,6 +1,7 @@
 use Rattle.std.proofs.Common.{◌≡◌, ◌++◌, drop}
-use Rattle.evaluator_package_calls.specs.GlobResults.{kept_of}
+use Rattle.evaluator_package_calls.specs.GlobResults.{kept_unless}
+use Rattle.evaluator_package_calls.specs.Excluding.{is_excluded}
 use Rattle.evaluator_package_calls.proofs.answering.add_paths.Given as goal
 
 abbrev pub invariant-loop-path : goal.invariant-loop-path
-invariant-loop-path l = l.all.items ++ kept_of l.excludes (drop l.path-index l.paths) ≡ l.fn.all.items ++ kept_of l.excludes l.paths
+invariant-loop-path l = l.all.items ++ kept_unless (is_excluded l.excludes) (drop l.path-index l.paths) ≡ l.fn.all.items ++ kept_unless (is_excluded l.excludes) l.paths

@@ -7,6 +7,6 @@ use Rattle.filetree.proofs.tree.Tree.del.Goals as goal
 pub returns : goal.returns
 returns c = (
   c.in_ok-test_del.ensures,
-  del_entries (entries_of c.self.inside.root) (entries_of c.in_ok-root.root) c.args.path.now c.in_ok-root.ensures
+  del_entries (entries_of c.self.inside.root) (entries_of c.del_in_root.new.root) c.args.path.now c.in_ok-del_in_root.ensures.ok
       ∙ ap (λ m. map.remove m c.args.path.now) c.self.view_is,
 )

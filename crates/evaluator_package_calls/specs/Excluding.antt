@@ -1,0 +1,15 @@
+-- Excluded patterns, of which those without a star are in a set.
+use Rattle.std.specs.Prelude.{◌≡◌, ℕ, List, Bool, ◌||◌, map}
+use Rattle.std.specs.HashSet.{contains}
+use Rattle.values_semantics.specs.Comparing.{same_text}
+use Rattle.labels.specs.Paths.{segments}
+use Rattle.pattern.specs.Globs.{some_matches}
+use Rattle.evaluator_package_calls.specs.declared.excludes.Excludes.{Excludes}
+
+-- a path is in the set, or one of the others matches it
+abbrev pub is_excluded : Excludes → List ℕ → Bool
+is_excluded sorted path = contains same_text sorted.plain path || some_matches (map segments sorted.starred.items) path
+
+-- the patterns match just these paths
+abbrev pub SortsPatterns : List (List ℕ) → Excludes → Type 0
+SortsPatterns patterns sorted = (path : List ℕ) → is_excluded sorted path ≡ some_matches (map segments patterns) path
