@@ -155,3 +155,29 @@ def test_real_names_and_stand_ins(tree: Make, direct: Direct) -> None:
     ]
     done = direct("query", "//a:all", "--output", "location", cwd=root)
     assert done.lines == ["a/BUILD:1:1: cc_library rule //a:l"]
+
+
+def test_missing_labels_are_those_of_the_present_files(
+    root: Root, run: Callable[..., Done], direct: Direct
+) -> None:
+    lib = FILES["lib/BUILD"]
+    steps: list[tuple[str, str | None]] = [
+        ("lib/nothing", ""),
+        ("lib/nothing", None),
+        ("lib/BUILD", lib + 'filegroup(name = "nothing")\n'),
+        ("lib/BUILD", lib + "filegroup(\n"),
+        ("lib/BUILD", lib),
+        ("new/BUILD", 'filegroup(name = "n", srcs = ["//lib:nothing", "//app:none", ":a"])\n'),
+        ("lib/sub/BUILD", ""),
+        ("app/none", ""),
+        ("lib/BUILD", None),
+    ]
+    counts = []
+    for path, text in [(".sefgulaw.toml", ""), *steps]:
+        root.delete(path) if text is None else root.replace(path, text)
+        kept = run("query", "--missing", "//...", cwd=root)
+        assert kept == direct("query", "--missing", "//...", cwd=root)
+        assert kept == run("query", "--missing", "//...", cwd=root)
+        counts.append(len(kept.lines))
+    run("daemon", "stop", cwd=root)
+    assert counts[:4] == [1, 0, 1, 0] and len(set(counts)) > 2

@@ -142,6 +142,17 @@ def test_all_targets_of_a_warm_daemon(large: Root, warm: Callable[..., Done]) ->
     assert took <= 2
 
 
+def test_a_query_of_all_targets_of_a_warm_daemon(large: Root, warm: Callable[..., Done]) -> None:
+    assert len(warm("query", "//...").lines) == 9 * PACKAGES
+    took = []
+    for _ in range(5):
+        begun = time.monotonic()
+        warm("query", "//...")
+        took.append(time.monotonic() - begun)
+    print(f"a query of all targets: {statistics.median(took):.2f} s")
+    assert statistics.median(took) <= 0.5
+
+
 def test_a_loader_that_is_killed_is_back_soon(
     large: Root, run: Runner, warm: Callable[..., Done]
 ) -> None:

@@ -9,7 +9,7 @@ from itertools import groupby
 from sefgulaw.messages import dumps, named
 from sefgulaw.names import Path, encode, is_encoded, real
 from sefgulaw.placing import Placed, Placer
-from sefgulaw.query.nodes import Nodes, Rule
+from sefgulaw.query.nodes import Nodes
 from sefgulaw.query.parsing import BadQuery, Call, parse
 from sefgulaw.query.running import run
 from sefgulaw.query.tree_world import Reversed, TreeWorld
@@ -73,14 +73,12 @@ class Queries:
         for package, own in groupby(labels, package_of):
             is_exact = self._is_exact(package[2:])
             nodes = world.declared(package)
-            rules: Mapping[str, Rule] = nodes.rules if nodes is not None else {}
+            lines: Mapping[str, bytes] = nodes.lines if nodes is not None and is_exact else {}
             for label in own:
-                rule = rules.get(label)
-                kind = world.kind(label) if rule is None else rule.kind + RULE_END
-                if is_exact and "__x" not in label and "@" not in label:
-                    yield f'{{"kind":"{kind}","label":"{label}"}}'.encode()
-                else:
-                    yield _line({"kind": kind}, "label", label, is_exact)
+                line = lines.get(label)
+                if line is None:
+                    line = _line({"kind": world.kind(label)}, "label", label, is_exact)
+                yield line
 
     def _is_exact(self, package: str) -> bool:
         return not self._tree.exactness.reasons(package)
@@ -105,7 +103,7 @@ class Queries:
 
 def _sorted(labels: Collection[str]) -> list[str]:
     """Returns labels in the byte order of their real names."""
-    if any(is_encoded(label) for label in labels):
+    if "__x" in "\n".join(labels) and any(map(is_encoded, labels)):
         return sorted(labels, key=lambda it: real(it).encode("utf-8", "surrogateescape"))
     return sorted(labels)
 

@@ -10,7 +10,7 @@ from typing import NamedTuple
 
 from sefgulaw.base import Base
 from sefgulaw.names import Path, basename, join
-from sefgulaw.query.world import Value
+from sefgulaw.query.world import RULE_END, Value
 
 LABELS: dict[str, tuple[str, ...]] = {
     "alias": ("actual",),
@@ -52,6 +52,20 @@ class PackageNodes:
         """The labels that targets of the package name and that it does not declare."""
         named = {label for labels in self.needs.values() for label in labels}
         return frozenset(named - self.rules.keys() - self.generated.keys())
+
+    @cached_property
+    def around(self) -> frozenset[str]:
+        """The packages of `outside`, by their labels without a name."""
+        return frozenset(it.partition(":")[0] for it in self.outside if it.startswith("//"))
+
+    @cached_property
+    def lines(self) -> dict[str, bytes]:
+        """The line of JSON of each rule whose label is its real name, if the package is exact."""
+        return {
+            label: f'{{"kind":"{rule.kind}{RULE_END}","label":"{label}"}}'.encode()
+            for label, rule in self.rules.items()
+            if "__x" not in label and "@" not in label
+        }
 
     def declares(self, label: str) -> bool:
         """Tells whether a label is that of a rule of the package, or of an output of one."""
@@ -110,24 +124,39 @@ class Nodes:
 
     def __init__(self, base: Base) -> None:
         self._base = base
-        self._kept: dict[str, PackageNodes] = {}
+        self._kept: dict[str, tuple[bytes | None, PackageNodes | None]] = {}
         self._sources: dict[str, bool] = {}
         self._sources_at = -1
+        self._missing: dict[str, tuple[str, ...]] = {}
+        self._missing_at = (-1, -1)
         self.stamp = 0
 
     def of(self, package: str) -> PackageNodes | None:
-        """Returns the nodes of a package that was loaded; None where it has none, or a fault."""
+        """Returns the nodes of a package that was loaded; None where it has none, or a fault.
+
+        `stamp` is another number whenever the answer of some package has differed.
+        """
         raw = self._base.store.raw(package)
         kept = self._kept.get(package)
-        if kept is not None and kept.raw is raw:
-            return kept
+        if kept is not None and kept[0] is raw:
+            return kept[1]
         self.stamp += 1
-        if raw is None or not raw.startswith(b'{"name":'):
-            if kept is not None:
-                del self._kept[package]
-            return None
-        self._kept[package] = read_nodes(raw, package)
-        return self._kept[package]
+        is_package = raw is not None and raw.startswith(b'{"name":')
+        nodes = read_nodes(raw, package) if raw is not None and is_package else None
+        self._kept[package] = raw, nodes
+        return nodes
+
+    def kept_missing(self) -> dict[str, tuple[str, ...]]:
+        """Returns the labels that packages name and that are not there, by the packages.
+
+        It has what was found since the answer of a package has differed last, or a file has come
+        or gone.
+        """
+        at = self.stamp, self._base.needs.moves
+        if self._missing_at != at:
+            self._missing_at = at
+            self._missing = {}
+        return self._missing
 
     def is_source_label(self, label: str) -> bool:
         """Tells whether a label is that of a source file, which is known until files move."""

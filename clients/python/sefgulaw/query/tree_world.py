@@ -58,6 +58,9 @@ class TreeWorld:
         self._ready: set[str] = set()
         self._known: dict[str, PackageNodes | None] = {}
         self._missing: dict[str, Message] = {}
+        # The last answer of `matching` that is all rules of these packages.
+        self._matched: list[str] | None = None
+        self._matched_packages: list[str] = []
         self._untold = self._base.untold_packages()
 
     @property
@@ -85,6 +88,8 @@ class TreeWorld:
 
     def prepare(self, labels: Collection[str]) -> None:
         """Makes known what the packages of some labels declare."""
+        if labels is self._matched:
+            return
         packages = {package_of(label) for label in labels}
         self.load(it[2:] for it in packages if it.startswith("//"))
 
@@ -127,6 +132,8 @@ class TreeWorld:
                 found += self._nodes.siblings(package)
             elif nodes is not None:
                 found += nodes.rules
+        if not wanted.files:
+            self._matched, self._matched_packages = found, [f"//{it}" for it in packages]
         return found
 
     def _covered(self, word: Word, wanted: Wanted) -> list[str]:
@@ -185,7 +192,10 @@ class TreeWorld:
 
     def missing(self, labels: Iterable[str]) -> list[str]:
         """Returns what targets name, or are, that nothing declares and no file of the tree is."""
+        if labels is self._matched:
+            return list(self._missing_of(self._matched_packages))
         named: set[str] = set()
+        whole: list[str] = []
         for package, own in by_package(labels).items():
             nodes = self.declared(package)
             if nodes is None:
@@ -193,7 +203,7 @@ class TreeWorld:
                 continue
             rules, generated, needs = nodes.rules, nodes.generated, nodes.needs
             if len(own) >= len(rules) and rules.keys() <= set(own):
-                named |= nodes.outside
+                whole.append(package)
                 named.update(it for it in own if it not in needs)
                 continue
             named.update(it for it in own if it not in rules and it not in generated)
@@ -201,6 +211,27 @@ class TreeWorld:
                 for other in needs.get(label, ()):
                     if other not in rules and other not in generated:
                         named.add(other)
+        return list(self._missing_of(whole).union(self._not_there(named)))
+
+    def _missing_of(self, packages: Iterable[str]) -> set[str]:
+        """Returns what the targets of packages name that is not there; most is kept from before."""
+        declared = [(it, nodes) for it in packages if (nodes := self.declared(it)) is not None]
+        around = {it for _, nodes in declared for it in nodes.around}
+        self.load(package[2:] for package in around)
+        # What is kept counts until one of these has another answer, which this finds.
+        for package in around:
+            self.declared(package)
+        kept = self._nodes.kept_missing()
+        found: set[str] = set()
+        for package, nodes in declared:
+            missing = kept.get(package)
+            if missing is None:
+                missing = kept[package] = tuple(self._not_there(nodes.outside))
+            found.update(missing)
+        return found
+
+    def _not_there(self, named: Iterable[str]) -> list[str]:
+        """Returns those of some labels that nothing declares and no file of the tree is."""
         around = by_package(it for it in named if it.startswith("//"))
         self.load(package[2:] for package in around)
         found: list[str] = []
