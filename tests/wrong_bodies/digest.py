@@ -2,7 +2,8 @@
 
 These are the crate's sources, definitions, proofs and edits, the definitions and contracts of the
 crates below that these name, or that those name in turn, and the kit's logic. Comments, idle
-imports, hints on inlining and the way that lines are broken count for nothing."""
+imports, hints on inlining and the way that lines are broken count for nothing, and neither does a
+function below that the crate's sources and edits do not name."""
 
 import collections
 import fcntl
@@ -42,22 +43,43 @@ def without_comments(text: str, mark: str) -> str:
 
 
 @functools.cache
-def contracts_in(text: str) -> str:
-    """What a source shows to the crates above: without comments, imports, bodies, private
-    functions, and how a type that contracts see as a model is represented."""
+def parts_shown(text: str) -> tuple[tuple[str, str], ...]:
+    """What a source shows to the crates above, in parts: without comments, imports, bodies and
+    private functions. A part that is a function which is called by its name begins with that name,
+    and all other parts with nothing."""
     lines = [line for line in text.split("\n") if not HINT.match(line)]
-    for it in reversed(functions("", "\n".join(lines))):
+    parts, at = [], 0
+    for it in functions("", "\n".join(lines)):
+        if it.first - 1 < at:
+            continue
         spans = range(it.first - 1, it.last)
         first = next(at for at in spans if FUNCTION.match(lines[at]))
         begins = (at for at in range(first, it.last) if begins_body(lines[at]))
         body = next(begins, it.last)
         around = item_around(lines, first)
-        is_shared = re.match(r"(pub )?trait |impl.* for ", around)
-        is_shown = lines[first].lstrip().startswith("pub ") or is_shared
-        lines[body if is_shown else it.first - 1 : it.last] = []
+        is_shared = bool(re.match(r"(pub )?trait |impl.* for ", around))
+        parts.append(("", items_of(lines[at : it.first - 1])))
+        if lines[first].lstrip().startswith("pub ") or is_shared:
+            name = "" if is_shared else it.id.name
+            parts.append((name, items_of(lines[it.first - 1 : body])))
+        at = it.last
+    return (*parts, ("", items_of(lines[at:])))
+
+
+def items_of(lines: list[str]) -> str:
+    """Lines of a source without comments, imports and empty lines."""
     is_no_item = re.compile(r" *(//|use |ghost use )")
-    shown = "\n".join(line for line in lines if line.strip() and not is_no_item.match(line))
-    return without_private_items(without_drops(without_representations(shown)))
+    return "\n".join(line for line in lines if line.strip() and not is_no_item.match(line))
+
+
+@functools.cache
+def contracts_in(text: str, words: frozenset[str] | None) -> str:
+    """What a source shows to a crate above that has these words, or to all: beside what it does not
+    show to any, it is without the functions that the crate does not name, and without how a type
+    that contracts see as a model is represented."""
+    parts = parts_shown(text)
+    named = [it for name, it in parts if it and (not name or words is None or name in words)]
+    return without_private_items(without_drops(without_representations("\n".join(named))))
 
 
 def begins_body(line: str) -> bool:
@@ -127,11 +149,11 @@ def own_text(text: str, is_source: bool) -> str:
 
 
 @functools.cache
-def shown_text(text: str, is_source: bool) -> str:
-    """What counts of a text of a crate below, in one line."""
+def shown_text(text: str, is_source: bool, words: frozenset[str] | None = None) -> str:
+    """What counts of a text of a crate below, in one line, for a crate with these words."""
     if not is_source:
         return in_one_line(without_comments(text, "--"))
-    shown = contracts_in(text)
+    shown = contracts_in(text, words)
     return in_one_line("\n".join([*imports_of(text.split("\n"), shown), shown]))
 
 
@@ -154,10 +176,11 @@ class Digests:
         """The digest of all texts that decide whether the crate's wrong bodies are refused."""
         made = hashlib.sha256(self.logic.encode())
         crate = self.repository.crate(name)
+        words = self.words_of(crate)
         own, shown = own_files(crate), self.reached_from(crate)
         texts = [(it, in_one_line(own_text(self.text(it), is_source(it)))) for it in own]
         texts += [(it, in_one_line(self.text(it))) for it in crate.edits()]
-        texts += [(it, shown_text(self.text(it), is_source(it))) for it in shown]
+        texts += [(it, shown_text(self.text(it), is_source(it), words)) for it in shown]
         for file, text in texts:
             for part in os.path.relpath(file, self.repository.root), text:
                 made.update(f"{len(part.encode())} ".encode() + part.encode())
@@ -166,26 +189,34 @@ class Digests:
     def reached_from(self, crate: Crate) -> list[str]:
         """The files of the crates below on which a crate's texts depend: those that they name, and
         those that these name in turn."""
-        own = own_files(crate)
+        own, words = own_files(crate), self.words_of(crate)
         found: set[str] = set()
         left = [(it, True) for it in own]
         while left:
             file, is_own = left.pop()
             home = os.path.relpath(file, f"{self.repository.root}/crates").partition("/")[0]
-            further = self.named_from(file, (home, *below(home, self.uses)), is_own) - found
+            reached = (home, *below(home, self.uses))
+            further = self.named_from(file, reached, None if is_own else words) - found
             found |= further
             left += [(it, False) for it in further]
         return sorted(found - set(own))
 
-    def _named_from(self, file: str, reached: tuple[str, ...], is_own: bool) -> set[str]:
-        """The files of some crates that a file names, which is one of the crate itself or of one
-        below."""
+    def words_of(self, crate: Crate) -> frozenset[str]:
+        """All words of a crate's sources and edits, the names of what it calls among them."""
+        texts = [self.text(it) for it in crate.files(PARTS, ".rt") + crate.edits()]
+        return frozenset(word for it in texts for word in re.findall(r"\w+", it))
+
+    def _named_from(
+        self, file: str, reached: tuple[str, ...], words: frozenset[str] | None
+    ) -> set[str]:
+        """The files of some crates that a file names, which is one of the crate itself, or of one
+        below as a crate sees it that has some words."""
         text = self.text(file)
         if not is_source(file):
             paths = re.findall(r"\bRattle\.\w+\.specs\.[\w.]+", text)
             return {it for it in map(self.module_file, paths) if it}
         lines = text.split("\n")
-        shown = own_text(text, True) if is_own else contracts_in(text)
+        shown = own_text(text, True) if words is None else contracts_in(text, words)
         modules = [it for it, _ in imports_in(lines, shown) if ".specs." in it]
         found = {it for it in map(self.module_file, modules) if it}
         for name, crates in self.names_used(lines, shown, reached):

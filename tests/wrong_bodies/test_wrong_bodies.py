@@ -150,6 +150,16 @@ class DigestTest(Fixture):
         other = LOW.replace("fn hidden(count: u64) -> u64", "fn hidden(count: u32) -> u32")
         self.assertEqual(self.changed("crates/low/src/lib.rt", other), {"low"})
 
+    def test_function_below_that_is_not_named_counts_for_its_crate_alone(self) -> None:
+        more = (
+            f"{LOW}\npub fn other(count: u64) -> u64\n    ensures same {{ count }}\n{{\n    1\n}}\n"
+        )
+        self.assertEqual(self.changed("crates/low/src/lib.rt", more), {"low"})
+        self.edit("file: src/lib.rt\nold: low(count)\nnew: other(count)\n", "names_it")
+        self.before = self.digests()
+        less = more.replace("{ count }", "{ 1 }")
+        self.assertEqual(self.changed("crates/low/src/lib.rt", less), {"low", "high"})
+
     def test_definition_below_counts_where_it_is_named(self) -> None:
         other = SUMS.replace("a ≡ b", "b ≡ a")
         self.assertEqual(self.changed("crates/low/specs/Sums.antt", other), {"low", "high"})
