@@ -1,6 +1,6 @@
 -- The numbers of a range, one after another.
 use Rattle.std.proofs.Common.{◌≡◌, ℕ, zero, suc, ◌+◌, ◌/◌, ◌<◌, ◌≤◌, ℤ, pos, negsuc, ◌+ℤ◌, ◌-ℤ◌, neg_ℤ, ◌<ℤ◌, ◌≤ℤ◌, Bool, true, false, not, cond, List, [], ◌∷◌, ◌++◌, length, append_assoc, length-append, FitsSigned, w64, refl, sym, ap, ◌∙◌, subst, add-one, arith}
-use Rattle.std.specs.Prelude.{int_lt, T}
+use Rattle.std.specs.Prelude.{int_lt, T, Result}
 use Rattle.std.proofs.lemmas.Int.{ints}
 use Rattle.std.proofs.Math.Nat.{add-div_right, div-eq_of_lt}
 use Rattle.std.proofs.lemmas.List.{append-nil}
@@ -12,6 +12,8 @@ use Rattle.values_semantics.specs.Numbers.{floor_div}
 use Rattle.values_semantics.specs.Outcome.{fault}
 use Rattle.values_semantics.specs.Heap.{Store, list, makes, makes_list, is_sized}
 use Rattle.values_semantics.specs.Functions.{count_to, range_count, range_list, numbers}
+use Rattle.values_heap.specs.declared.halt.Halt.{Halt}
+use Rattle.values_heap.specs.View.{Says}
 use Rattle.values_builtins.specs.Spans.{lies_before}
 
 below : (a b : ℤ) → int_lt a b ≡ true → a <ℤ b
@@ -101,6 +103,10 @@ range_made from to step xs e s = rw (e, numbers_length (range_count from to step
     either : (b : Bool) → cond b (cond b (makes (list (numbers (range_count from to step) from step) false)) (fault 13)) (fault 13) s ≡ cond b (makes (list (numbers (range_count from to step) from step) false)) (fault 13) s
     either true = refl
     either false = refl
+
+-- a list that says what is made of the numbers says the same of the range
+pub held_made : (from to step : ℤ) → step ≡ pos 1 → (xs : List Val) → xs ≡ numbers (range_count from to (pos 1)) from (pos 1) → (s : Store) (result : Result Val Halt) (t : Store) → Says (makes_list xs s) result t → Says (range_list from to step s) result t
+held_made from to step one xs e s result t says = subst (λ out. Says out result t) (sym (range_made from to step xs (e ∙ ap (λ i. numbers (range_count from to i) from i) (sym one)) s)) says
 
 between_fits : (a n b : ℤ) → FitsSigned w64 a → FitsSigned w64 b → a ≤ℤ n → n ≤ℤ b → FitsSigned w64 n
 between_fits a n b f g h k = omega (arith, ints)

@@ -5,7 +5,7 @@ ghost use Rattle.values_builtins.specs.Parts.{list_from, tuple_from, reversed_fr
 ghost use Rattle.values_heap.specs.View.{store_of, Says};
 
 use values_heap::{Halt, Heap, Val};
-use values_operators::items;
+use values_operators::copy_items;
 
 /// Evaluates `list()`.
 pub fn no_list(heap: &mut Heap) -> Result<Val, Halt>
@@ -18,7 +18,7 @@ pub fn no_list(heap: &mut Heap) -> Result<Val, Halt>
 pub fn list(heap: &mut Heap, x: Val) -> Result<Val, Halt>
     ensures { Says (list_from x (store_of heap.old)) result (store_of heap.new) }
 {
-    let members = items(heap, x)?;
+    let members = copy_items(heap, x)?;
     heap.make_list(members)
 }
 
@@ -33,7 +33,7 @@ pub fn no_tuple(heap: &mut Heap) -> Result<Val, Halt>
 pub fn tuple(heap: &mut Heap, x: Val) -> Result<Val, Halt>
     ensures { Says (tuple_from x (store_of heap.old)) result (store_of heap.new) }
 {
-    let members = items(heap, x)?;
+    let members = copy_items(heap, x)?;
     heap.make_tuple(members)
 }
 
@@ -41,7 +41,7 @@ pub fn tuple(heap: &mut Heap, x: Val) -> Result<Val, Halt>
 pub fn reversed(heap: &mut Heap, x: Val) -> Result<Val, Halt>
     ensures { Says (reversed_from x (store_of heap.old)) result (store_of heap.new) }
 {
-    let mut members = items(heap, x)?;
+    let mut members = copy_items(heap, x)?;
     members.reverse();
     heap.make_list(members)
 }

@@ -6,13 +6,13 @@ ghost use Rattle.values_heap.specs.View.{store_of, Says, SaysItems};
 ghost use Rattle.values_builtins.specs.Parts.{enumerate_from};
 
 use values_heap::{Halt, Heap, Val};
-use values_operators::items;
+use values_operators::copy_items;
 
 /// Evaluates `enumerate(x)`, or returns fault 5.
 pub fn enumerate(heap: &mut Heap, x: Val) -> Result<Val, Halt>
     ensures { Says (enumerate_from x (store_of heap.old)) result (store_of heap.new) }
 {
-    let members = items(heap, x)?;
+    let members = copy_items(heap, x)?;
     let pairs = index_pairs(heap, members.as_slice())?;
     heap.make_list(pairs)
 }

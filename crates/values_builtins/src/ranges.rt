@@ -1,12 +1,14 @@
 //! `range`.
-ghost use Rattle.std.specs.Prelude.{◌≡◌};
+ghost use Rattle.std.specs.Prelude.{◌≡◌, pos, IfSome};
+ghost use Rattle.values_semantics.specs.Heap.{makes_list};
 ghost use Rattle.values_semantics.specs.Functions.{range, range_by, range_list, range_count, numbers};
 ghost use Rattle.values_heap.specs.View.{store_of, Says};
 ghost use Rattle.values_heap.specs.ListSizes.{SizedAs};
+ghost use Rattle.values_heap.specs.Numbers.{shown};
 ghost use Rattle.values_builtins.specs.Spans.{lies_before, IsNonzero};
 
 use std::alloc::Global;
-use values_heap::{Halt, Heap, MAX_LENGTH, Val};
+use values_heap::{Halt, Heap, MAX_LENGTH, Numbers, Object, Val};
 use values_semantics::faults;
 
 /// Evaluates `range(to)`, `range(from, to)` or `range(from, to, step)`, or returns fault 25, 5 or 13.
@@ -42,18 +44,46 @@ fn make_range(heap: &mut Heap, from: i64, to: i64, step: i64) -> Result<Val, Hal
     requires { IsNonzero step }
     ensures { Says (range_list from to step (store_of heap.old)) result (store_of heap.new) }
 {
+    if step == 1 {
+        if let Some(held) = hold_numbers(from, to) {
+            return make_held(heap, held);
+        }
+    }
     let members = numbers(heap.alloc, from, to, step)?;
     let made = heap.make_list(members)?;
     Ok(made)
 }
 
-// Returns for how many numbers memory is allocated at first: for all, where they follow one another.
-fn room(from: i64, to: i64, step: i64) -> usize {
-    if step != 1 {
-        return 0;
+// Makes a list of consecutive numbers.
+fn make_held(heap: &mut Heap, held: Numbers) -> Result<Val, Halt>
+    ensures { Says (makes_list (shown held) (store_of heap.old)) result (store_of heap.new) }
+{
+    if held.len() > MAX_LENGTH {
+        return Err(Halt::Code(faults::TOO_LARGE));
     }
-    match usize::try_from(to.saturating_sub(from)) {
-        Ok(n) => n.min(MAX_LENGTH),
+    let made = heap.make(Object::Numbers(held))?;
+    Ok(made)
+}
+
+// Returns the numbers from one up to another, if they are not too many.
+fn hold_numbers(from: i64, to: i64) -> Option<Numbers>
+    ensures { IfSome result (λ n. shown n ≡ numbers (range_count from to (pos 1)) from (pos 1)) }
+{
+    if from < to {
+        let span = to.checked_sub(from)?;
+        return Numbers::new(from, span as usize);
+    }
+    Numbers::new(from, 0)
+}
+
+// Returns for how many numbers memory is allocated at first.
+fn room(from: i64, to: i64, step: i64) -> usize {
+    let span = to.saturating_sub(from);
+    let Some(steps) = span.checked_div(step) else {
+        return 0;
+    };
+    match usize::try_from(steps) {
+        Ok(n) => n.saturating_add(1).min(MAX_LENGTH),
         Err(_) => 0,
     }
 }
@@ -79,6 +109,7 @@ fn numbers(alloc: Global, from: i64, to: i64, step: i64) -> Result<Vec<Val>, Hal
 }
 
 // Returns whether a number is before the end of a range.
+#[inline(always)]
 fn lies_before(n: i64, to: i64, step: i64) -> bool
     ensures { result ≡ lies_before n to step }
 {

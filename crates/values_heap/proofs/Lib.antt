@@ -5,3 +5,4 @@ pub mod Laid
 pub mod Lent
 pub mod Places
 pub mod Halving
+pub mod Consecutive

@@ -1,4 +1,6 @@
 pub mod View
+pub mod Numbers
+pub mod Full
 pub mod ListSizes
 pub mod MemoryUse
 pub mod Objects

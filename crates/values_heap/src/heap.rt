@@ -13,6 +13,7 @@ use crate::halt::Halt;
 use crate::object::{ENTRY, MEMBER, Object, shape_of, size_of};
 use crate::object_ref::ObjectRef;
 use crate::objects::Objects;
+use crate::spare::SpareRoom;
 use base_types::Memory;
 use indexmap::IndexMap;
 use std::alloc::Global;
@@ -47,6 +48,8 @@ pub struct Heap {
     pub objects: Objects,
     pub iterated: Vec<usize>,
     pub steps: u64,
+    // Memory of objects that were given back, for new ones.
+    pub spare: SpareRoom,
     held: u64,
     // The number of charged bytes at which garbage is collected next.
     full_at: u64,
@@ -63,6 +66,7 @@ impl Heap {
             objects: Objects::new(alloc),
             iterated: Vec::new(alloc),
             steps,
+            spare: SpareRoom::new(alloc),
             held: 0,
             full_at: FIRST_FULL,
         }

@@ -6,6 +6,7 @@ ghost use Rattle.values_heap.specs.LastWrite.{last_written};
 ghost use Rattle.values_heap.specs.MemoryUse.{object_bytes, shape_bytes};
 
 use crate::object::{Object, Shape, shape_of, size_of};
+use crate::spare::SpareRoom;
 use base_types::Memory;
 use http_server::Log;
 
@@ -81,15 +82,19 @@ impl HeapObject {
         self.object = Some(object);
     }
 
-    /// Frees the object, and returns the bytes that it counted for, or 0 if it was freed before.
+    /// Frees the object, and returns the bytes that it counted for, or 0 if it was freed before. The memory of many
+    /// members is kept for new ones.
     #[tactic(auto, unfolding(crate::specs::Own::written_object))]
-    pub fn free(&mut self) -> u128
+    pub fn free(&mut self, spare: &mut SpareRoom) -> u128
         ensures same { written_object self.new ≡ written_object self.old }
         ensures bytes { result ≡ counted_bytes self.old }
         ensures gone { self.new.object ≡ None }
     {
         match self.object.take() {
-            Some(_) => size_of(self.shape),
+            Some(object) => {
+                spare.keep(object);
+                size_of(self.shape)
+            }
             None => 0,
         }
     }

@@ -1,5 +1,5 @@
 //! Lists of bytes or members, apart from any heap.
-ghost use Rattle.std.specs.Prelude.{◌≡◌, ◌≤◌, ◌*◌, ◌++◌, not, length, IfOk, IfSome, OnOk};
+ghost use Rattle.std.specs.Prelude.{◌≡◌, ◌≤◌, ◌*◌, ◌++◌, [], not, length, IfOk, IfSome, OnOk};
 ghost use Rattle.values_semantics.specs.Heap.{is_sized};
 ghost use Rattle.values_semantics.specs.Operators.{repeated, times};
 ghost use Rattle.values_semantics.specs.Indexing.{place, member, bound, bound_or, cut, between};
@@ -11,17 +11,29 @@ use base_types::Memory;
 use std::alloc::Global;
 use values_semantics::{Val, faults};
 
-// From this many copies of a list on, blocks of this many copies are added as a whole.
+// From this many copies of a short list on, blocks of this many copies are added as a whole.
 const BLOCK: usize = 256;
+
+// A list with fewer members is short.
+const SHORT: usize = 16;
 
 /// Returns one list after the other, or fault 13.
 pub fn concat<T: Copy>(alloc: Global, a: &[T], b: &[T]) -> Result<Vec<T>, Halt>
     ensures { SizedAs (a.now ++ b.now) result }
 {
+    concat_into(Vec::new(alloc), a, b)
+}
+
+/// Returns one list after the other, in a list that is empty, or fault 13.
+pub(crate) fn concat_into<T: Copy>(empty: Vec<T>, a: &[T], b: &[T]) -> Result<Vec<T>, Halt>
+    requires { empty.items ≡ [] }
+    ensures { SizedAs (a.now ++ b.now) result }
+{
     if a.len() > MAX_LENGTH || b.len() > MAX_LENGTH - a.len() {
         return Err(Halt::Code(faults::TOO_LARGE));
     }
-    let mut all = Vec::with_capacity(alloc, a.len() + b.len())?;
+    let mut all = empty;
+    all.reserve_exact(a.len() + b.len())?;
     all.extend_from_slice(a)?;
     all.extend_from_slice(b)?;
     Ok(all)
@@ -31,15 +43,29 @@ pub fn concat<T: Copy>(alloc: Global, a: &[T], b: &[T]) -> Result<Vec<T>, Halt>
 pub fn repeated<T: Copy>(alloc: Global, a: &[T], n: i64) -> Result<Vec<T>, Halt>
     ensures { SizedAs (repeated a.now n) result }
 {
+    repeated_into(alloc, Vec::new(alloc), a, n)
+}
+
+/// Returns a list repeated `n` times, in a list that is empty, or fault 13; a negative number repeats nothing.
+pub(crate) fn repeated_into<T: Copy>(
+    alloc: Global,
+    empty: Vec<T>,
+    a: &[T],
+    n: i64,
+) -> Result<Vec<T>, Halt>
+    requires { empty.items ≡ [] }
+    ensures { SizedAs (repeated a.now n) result }
+{
     if n <= 0 {
         return Ok(Vec::new(alloc));
     }
-    times_sized(alloc, a, n as usize)
+    times_sized(alloc, empty, a, n as usize)
 }
 
-// Returns a list repeated `n` times, or fault 13.
+// Returns a list repeated `n` times, in a list that is empty, or fault 13.
 #[tactic(auto, using(crate::proofs::Times::times_empty, crate::proofs::Times::times_length))]
-fn times_sized<T: Copy>(alloc: Global, a: &[T], n: usize) -> Result<Vec<T>, Halt>
+fn times_sized<T: Copy>(alloc: Global, empty: Vec<T>, a: &[T], n: usize) -> Result<Vec<T>, Halt>
+    requires { empty.items ≡ [] }
     ensures { SizedAs (times n a.now) result }
 {
     if a.is_empty() {
@@ -48,7 +74,7 @@ fn times_sized<T: Copy>(alloc: Global, a: &[T], n: usize) -> Result<Vec<T>, Halt
     if is_too_long(n, a.len()) {
         return Err(Halt::Code(faults::TOO_LARGE));
     }
-    let all = times(alloc, a, n)?;
+    let all = times(alloc, empty, a, n)?;
     Ok(all)
 }
 
@@ -62,13 +88,16 @@ fn is_too_long(n: usize, len: usize) -> bool
     }
 }
 
-// Returns a list repeated `n` times. If `n` is large, blocks of many copies are added.
+// Returns a list repeated `n` times, in a list that is empty. If the list is short and `n` is large, blocks of many
+// copies are added.
 #[tactic(auto, using(crate::proofs::Times::times_blocks))]
-fn times<T: Copy>(alloc: Global, a: &[T], n: usize) -> Result<Vec<T>, Memory>
+fn times<T: Copy>(alloc: Global, empty: Vec<T>, a: &[T], n: usize) -> Result<Vec<T>, Memory>
+    requires { empty.items ≡ [] }
     ensures { IfOk result (λ v. v.items ≡ times n a.now) }
 {
-    let mut all = Vec::with_capacity(alloc, n.saturating_mul(a.len()))?;
-    if n < BLOCK {
+    let mut all = empty;
+    all.reserve_exact(n.saturating_mul(a.len()))?;
+    if n < BLOCK || a.len() >= SHORT {
         add_times(&mut all, a, n)?;
         return Ok(all);
     }
@@ -157,6 +186,17 @@ pub fn cut<T: Copy>(alloc: Global, a: &[T], from: Val, to: Val) -> Result<Vec<T>
     };
     let part = subrange(a, from, to);
     Ok(Vec::from_slice(alloc, part)?)
+}
+
+/// Returns these members in a list that is empty.
+pub(crate) fn fill<T: Copy>(empty: Vec<T>, a: &[T]) -> Result<Vec<T>, Memory>
+    requires { empty.items ≡ [] }
+    ensures { IfOk result (λ v. v.items ≡ a.now) }
+{
+    let mut all = empty;
+    all.reserve_exact(a.len())?;
+    all.extend_from_slice(a)?;
+    Ok(all)
 }
 
 /// Returns the part between two places.

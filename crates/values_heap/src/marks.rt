@@ -145,7 +145,7 @@ impl Heap {
         ensures same { store_of self.new ≡ store_of self.old }
         ensures held { self.new.held ≡ self.old.held - bytes_at self.old.objects place }
     {
-        let bytes = self.objects.free(place);
+        let bytes = self.objects.free(place, &mut self.spare);
         self.release(bytes);
     }
 }

@@ -1,11 +1,14 @@
 //! Objects, and the bytes that they count for.
-ghost use Rattle.std.specs.Prelude.{◌≡◌};
+ghost use Rattle.std.specs.Prelude.{◌≡◌, true, IfOk};
 ghost use Rattle.values_frozen_objects.specs.Objects.{frozen_obj};
 ghost use Rattle.values_heap.specs.Objects.{object_of};
+ghost use Rattle.values_heap.specs.Full.{is_in_full};
 ghost use Rattle.values_heap.specs.MemoryUse.{object_bytes, shape_bytes};
 
-use base_types::Text;
+use crate::numbers::Numbers;
+use base_types::{Memory, Text};
 use indexmap::IndexMap;
+use std::alloc::Global;
 use values_frozen_objects::FrozenObject;
 use values_semantics::{Bytes, Entry, Key, Val};
 
@@ -25,6 +28,8 @@ pub enum Object {
         members: Vec<Val>,
         frozen: bool,
     },
+    /// A list of consecutive numbers, which becomes a `List` before it is changed.
+    Numbers(Numbers),
     Tuple(Vec<Val>),
     /// Boxed, so that the many other objects are small.
     Dict {
@@ -33,6 +38,25 @@ pub enum Object {
     },
     /// A function of a file: the file's label, and the name.
     Function(Text, Text),
+}
+
+impl Object {
+    /// Returns the object in a form in which its members may be changed.
+    pub fn in_full(self, alloc: Global) -> Result<Object, Memory>
+        ensures same { IfOk result (λ o. object_of o ≡ object_of self) }
+        ensures full { IfOk result (λ o. is_in_full o ≡ true) }
+    {
+        match self {
+            Object::Numbers(numbers) => {
+                let members = numbers.copy_into(Vec::new(alloc))?;
+                Ok(Object::List {
+                    members,
+                    frozen: false,
+                })
+            }
+            other => Ok(other),
+        }
+    }
 }
 
 /// What the bytes of an object depend on: how many bytes, members or entries it has.
@@ -51,6 +75,7 @@ pub fn shape_of(object: &Object) -> Shape
     match object {
         Object::Text(bytes) => Shape::Bytes(bytes.as_slice().len()),
         Object::List { members, .. } => Shape::Members(members.len()),
+        Object::Numbers(numbers) => Shape::Members(numbers.len()),
         Object::Tuple(members) => Shape::Members(members.len()),
         Object::Dict { entries, .. } => Shape::Entries(entries.len()),
         Object::Function(_, _) => Shape::Plain,

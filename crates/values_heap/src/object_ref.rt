@@ -1,18 +1,21 @@
 //! What is read of an object. A reader sees its members and entries by their places and keys alone, and not how they
 //! are stored.
-ghost use Rattle.std.specs.Prelude.{◌≡◌, ◌++◌, map, length, slice_get, option_map, ◌==◌, ◌<◌, ◌^◌, Some, IfOk};
+ghost use Rattle.std.specs.Prelude.{◌≡◌, ◌++◌, [], map, length, slice_get, option_map, ◌==◌, ◌<◌, ◌^◌, Some, IfOk};
 ghost use Rattle.values_semantics.specs.Comparing.{entry_at};
 ghost use Rattle.values_semantics.specs.Indexing.{member, cut};
 ghost use Rattle.values_semantics.specs.Operators.{repeated};
 ghost use Rattle.values_heap.specs.ListSizes.{SizedAs, CutAs};
 ghost use Rattle.values_heap.specs.Objects.{object_of};
 ghost use Rattle.values_heap.specs.Looks.{seen_object, entry_seen};
+ghost use Rattle.values_heap.specs.Numbers.{shown};
 ghost use Rattle.values_frozen_objects.specs.Shift.{moved, moved_val, moved_pair};
 ghost use Rattle.values_frozen_objects.specs.Objects.{frozen_obj};
 
 use crate::halt::Halt;
-use crate::lists::{concat, cut, place, repeated, slice_bound_or, subrange};
+use crate::lists::{concat_into, fill, place, repeated_into, slice_bound_or, subrange};
+use crate::numbers::Numbers;
 use crate::object::Object;
+use crate::spare::SpareRoom;
 use base_types::{Memory, Text};
 use indexmap::IndexMap;
 use std::alloc::Global;
@@ -20,11 +23,13 @@ use std::marker::Model;
 use values_frozen_objects::{FrozenDict, FrozenObject, FrozenVal};
 use values_semantics::{Bytes, Entry, Key, Val, faults};
 
-// Where the members of an object are: in the heap's own object, or in a frozen one that is after `base` others.
+// Where the members of an object are: in the heap's own object, in a frozen one that is after `base` others, or nowhere,
+// since they are consecutive numbers.
 #[derive(Drop)]
 enum MemberStore<'a> {
     Own(&'a [Val]),
     Lent { items: &'a [FrozenVal], base: u32 },
+    Numbers(&'a Numbers),
 }
 
 /// The members of a list or tuple, in order. A contract sees the values.
@@ -47,20 +52,36 @@ impl<'a> Model for Members<'a> {
     ghost view = { λ m. held_members m.held };
 }
 
-// Returns attached values, in a list of the evaluation's own.
-fn copied_lent(alloc: Global, items: &[FrozenVal], base: u32) -> Result<Vec<Val>, Memory>
+// Returns attached values, in a list of the evaluation's own that is empty.
+fn copied_lent(empty: Vec<Val>, items: &[FrozenVal], base: u32) -> Result<Vec<Val>, Memory>
+    requires { empty.items ≡ [] }
     ensures { IfOk result (λ v. v.items ≡ map (moved_val base) items.now) }
 {
-    let mut all = Vec::with_capacity(alloc, items.len())?;
+    let mut all = empty;
+    all.reserve_exact(items.len())?;
     for x in items.iter() {
         all.push(x.shift(base))?;
     }
     Ok(all)
 }
 
+// Returns the part of values between two bounds, or fault 5.
+fn cut_own(spare: &mut SpareRoom, items: &[Val], from: Val, to: Val) -> Result<Vec<Val>, Halt>
+    ensures { CutAs (cut items.now from to) result }
+{
+    let (Some(from), Some(to)) = (
+        slice_bound_or(0, from, items.len()),
+        slice_bound_or(items.len(), to, items.len()),
+    ) else {
+        return Err(Halt::Code(faults::WRONG_TYPE));
+    };
+    let part = subrange(items, from, to);
+    Ok(fill(spare.take(part.len()), part)?)
+}
+
 // Returns the part of attached values between two bounds, or fault 5.
 fn cut_lent(
-    alloc: Global,
+    spare: &mut SpareRoom,
     items: &[FrozenVal],
     base: u32,
     from: Val,
@@ -75,7 +96,26 @@ fn cut_lent(
         return Err(Halt::Code(faults::WRONG_TYPE));
     };
     let part = subrange(items, from, to);
-    Ok(copied_lent(alloc, part, base)?)
+    Ok(copied_lent(spare.take(part.len()), part, base)?)
+}
+
+// Returns the part of numbers between two bounds, or fault 5.
+fn cut_numbers(
+    spare: &mut SpareRoom,
+    numbers: &Numbers,
+    from: Val,
+    to: Val,
+) -> Result<Vec<Val>, Halt>
+    ensures { CutAs (cut (shown numbers.now) from to) result }
+{
+    let (Some(from), Some(to)) = (
+        slice_bound_or(0, from, numbers.len()),
+        slice_bound_or(numbers.len(), to, numbers.len()),
+    ) else {
+        return Err(Halt::Code(faults::WRONG_TYPE));
+    };
+    let part = numbers.between(from, to);
+    Ok(part.copy_into(spare.take(part.len()))?)
 }
 
 impl<'a> Members<'a> {
@@ -102,11 +142,13 @@ impl<'a> Members<'a> {
     /// Returns how many members there are.
     #[inline(always)]
     pub fn len(&self) -> usize
-        ensures { result ≡ length self.now }
+        ensures number { result ≡ length self.now }
+        ensures within { result < 2 ^ 63 }
     {
         match &self.held {
             MemberStore::Own(items) => items.len(),
             MemberStore::Lent { items, .. } => items.len(),
+            MemberStore::Numbers(numbers) => numbers.len(),
         }
     }
 
@@ -129,6 +171,7 @@ impl<'a> Members<'a> {
                 Some(x) => Some(x.shift(*base)),
                 None => None,
             },
+            MemberStore::Numbers(numbers) => numbers.get(i),
         }
     }
 
@@ -152,52 +195,76 @@ impl<'a> Members<'a> {
         }
     }
 
+    // Returns the members in a list that is empty.
+    fn copy_into(&self, empty: Vec<Val>) -> Result<Vec<Val>, Memory>
+        requires { empty.items ≡ [] }
+        ensures { IfOk result (λ v. v.items ≡ self.now) }
+    {
+        match &self.held {
+            MemberStore::Own(items) => fill(empty, items),
+            MemberStore::Lent { items, base } => copied_lent(empty, items, *base),
+            MemberStore::Numbers(numbers) => numbers.copy_into(empty),
+        }
+    }
+
     /// Returns the members in a list of their own.
     pub fn to_vec(&self, alloc: Global) -> Result<Vec<Val>, Memory>
         ensures { IfOk result (λ v. v.items ≡ self.now) }
     {
-        match &self.held {
-            MemberStore::Own(items) => Ok(Vec::from_slice(alloc, items)?),
-            MemberStore::Lent { items, base } => copied_lent(alloc, items, *base),
-        }
+        self.copy_into(Vec::new(alloc))
+    }
+
+    /// Returns the members in a list of their own, in memory that was kept for one if there is some.
+    pub fn copy_in(&self, spare: &mut SpareRoom) -> Result<Vec<Val>, Memory>
+        ensures { IfOk result (λ v. v.items ≡ self.now) }
+    {
+        self.copy_into(spare.take(self.len()))
     }
 
     /// Returns the part between two bounds, or fault 5.
-    pub fn slice(&self, alloc: Global, from: Val, to: Val) -> Result<Vec<Val>, Halt>
+    pub fn slice(&self, spare: &mut SpareRoom, from: Val, to: Val) -> Result<Vec<Val>, Halt>
         ensures { CutAs (cut self.now from to) result }
     {
         match &self.held {
-            MemberStore::Own(items) => cut(alloc, items, from, to),
-            MemberStore::Lent { items, base } => cut_lent(alloc, items, *base, from, to),
+            MemberStore::Own(items) => cut_own(spare, items, from, to),
+            MemberStore::Lent { items, base } => cut_lent(spare, items, *base, from, to),
+            MemberStore::Numbers(numbers) => cut_numbers(spare, numbers, from, to),
         }
     }
 
     /// Returns these members followed by others, or fault 13.
-    pub fn concat(&self, alloc: Global, others: &Members<'_>) -> Result<Vec<Val>, Halt>
+    pub fn concat(&self, spare: &mut SpareRoom, others: &Members<'_>) -> Result<Vec<Val>, Halt>
         ensures { SizedAs (self.now ++ others.now) result }
     {
+        let empty = spare.take(self.len().saturating_add(others.len()));
         match (&self.held, &others.held) {
-            (MemberStore::Own(items), MemberStore::Own(more)) => concat(alloc, items, more),
+            (MemberStore::Own(items), MemberStore::Own(more)) => concat_into(empty, items, more),
             _ => {
-                let items = self.to_vec(alloc)?;
-                let more = others.to_vec(alloc)?;
-                concat(alloc, items.as_slice(), more.as_slice())
+                let items = self.copy_in(spare)?;
+                let more = others.copy_in(spare)?;
+                concat_into(empty, items.as_slice(), more.as_slice())
             }
         }
     }
 
     /// Returns the members repeated `n` times, or fault 13; a negative number repeats nothing.
-    pub fn repeat(&self, alloc: Global, n: i64) -> Result<Vec<Val>, Halt>
+    pub fn repeat(&self, spare: &mut SpareRoom, n: i64) -> Result<Vec<Val>, Halt>
         ensures { SizedAs (repeated self.now n) result }
     {
+        let empty = spare.take(room_of(self.len(), n));
         match &self.held {
-            MemberStore::Own(items) => repeated(alloc, items, n),
-            MemberStore::Lent { items, base } => {
-                let items = copied_lent(alloc, items, *base)?;
-                repeated(alloc, items.as_slice(), n)
+            MemberStore::Own(items) => repeated_into(spare.alloc, empty, items, n),
+            _ => {
+                let items = self.copy_in(spare)?;
+                repeated_into(spare.alloc, empty, items.as_slice(), n)
             }
         }
     }
+}
+
+// Returns for how many members room is made if so many are repeated `n` times.
+fn room_of(len: usize, n: i64) -> usize {
+    len.saturating_mul(n.max(0) as usize)
 }
 
 // Where the entries of a dictionary are, as in `MemberStore`.
@@ -340,6 +407,12 @@ pub fn show(object: &Object) -> ObjectRef<'_>
         Object::List { members, frozen } => ObjectRef::List {
             members: Members::new(members.as_slice()),
             frozen: *frozen,
+        },
+        Object::Numbers(numbers) => ObjectRef::List {
+            members: Members {
+                held: MemberStore::Numbers(numbers),
+            },
+            frozen: false,
         },
         Object::Tuple(members) => ObjectRef::Tuple(Members::new(members.as_slice())),
         Object::Dict { entries, frozen } => ObjectRef::Dict {

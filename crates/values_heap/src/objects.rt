@@ -13,6 +13,7 @@ ghost use Rattle.values_heap.specs.Own.{written_object};
 use crate::heap_object::HeapObject;
 use crate::object::{Object, frozen_shape, size_of};
 use crate::object_ref::{ObjectRef, show, show_lent};
+use crate::spare::SpareRoom;
 use base_types::Memory;
 use std::alloc::Global;
 use std::marker::Model;
@@ -346,12 +347,12 @@ impl Objects {
 
     /// Frees the object at a place, if it is the heap's own, and returns the bytes that it counted for. These are 0 if
     /// it was freed before, or if it is attached. For a contract it is still there.
-    pub fn free(&mut self, place: usize) -> u128
+    pub fn free(&mut self, place: usize, spare: &mut SpareRoom) -> u128
         ensures same { map object_in self.new ≡ map object_in self.old }
         ensures bytes { result ≡ bytes_at self.old place }
     {
         match seek(self.ranges.as_slice(), self.from, self.lent, place) {
-            Spot::Own(i) => free_own(&mut self.own, i),
+            Spot::Own(i) => free_own(&mut self.own, i, spare),
             Spot::Lent {
                 object: _object,
                 base: _base,
@@ -361,14 +362,14 @@ impl Objects {
 }
 
 // Frees the own object with a number, and returns the bytes that it counted for.
-fn free_own(objects: &mut Vec<HeapObject>, i: usize) -> u128
+fn free_own(objects: &mut Vec<HeapObject>, i: usize, spare: &mut SpareRoom) -> u128
     ensures same { map written_object objects.new.items ≡ map written_object objects.old.items }
     ensures number { length objects.new.items ≡ length objects.old.items }
     ensures bytes { result ≡ standing_bytes
         (option_map standing_of (slice_get objects.old.items i)) }
 {
     match objects.get_mut(i) {
-        Some(found) => found.free(),
+        Some(found) => found.free(spare),
         None => 0,
     }
 }

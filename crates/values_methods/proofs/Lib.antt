@@ -3,3 +3,4 @@ pub mod Separators
 pub mod Joins
 pub mod Bridges
 pub mod Turns
+pub mod Replacing

@@ -110,12 +110,13 @@ fn extend_members(heap: &mut Heap, a: usize, more: &[Val]) -> Result<(), Halt>
     ensures { Says (extended a (at a (store_of heap.old)) more.now (store_of heap.old)) result
         (store_of heap.new) }
 {
-    let Some(
-        Object::List {
-            members: mut members,
-            frozen,
-        },
-    ) = heap.take(a)?
+    let Some(object) = heap.take(a)? else {
+        return Err(Halt::Code(faults::WRONG_TYPE));
+    };
+    let Object::List {
+        members: mut members,
+        frozen,
+    } = object.in_full(heap.alloc)?
     else {
         return Err(Halt::Code(faults::WRONG_TYPE));
     };

@@ -31,6 +31,23 @@ pub fn split_parts<'a>(
     Ok(all)
 }
 
+/// Returns a text with each occurrence of `old` replaced, found from the left and not overlapping, or fault 13.
+pub fn replace_parts(alloc: Global, whole: &[u8], old: &[u8], new: &[u8]) -> Result<Vec<u8>, Halt>
+    requires { 0 < length old.now }
+    ensures { SizedAs (with_between new.now (split_by old.now whole.now)) result }
+{
+    let finder = Finder::new(old);
+    let mut all = Vec::new(alloc);
+    let mut rest = whole;
+    while let Some(place) = finder.find(rest) {
+        let (part, others) = rest.split_at(place);
+        push_part(&mut all, part, new)?;
+        rest = &others[old.len()..];
+    }
+    push_part(&mut all, rest, b"")?;
+    Ok(all)
+}
+
 /// Joins texts with another one between them, or returns fault 13.
 pub fn join_parts(alloc: Global, separator: &[u8], parts: &[&[u8]]) -> Result<Vec<u8>, Halt>
     ensures { SizedAs (with_between separator.now (shown parts.now)) result }
@@ -46,7 +63,7 @@ pub fn join_parts(alloc: Global, separator: &[u8], parts: &[&[u8]]) -> Result<Ve
     Ok(all)
 }
 
-// Adds a separator and a text at the end, or returns fault 13.
+// Adds two texts at the end, or returns fault 13.
 fn push_part(all: &mut Vec<u8>, separator: &[u8], part: &[u8]) -> Result<(), Halt>
     ensures { Grows all.old.items (separator.now ++ part.now) result all.new.items }
 {

@@ -8,7 +8,7 @@ ghost use Rattle.values_heap.specs.View.{store_of, Says, SaysItems};
 
 use crate::names::{is_name, no_arguments};
 use crate::spaces::{ends_with, starts_with, strip};
-use crate::splitting::{join_parts, split_parts};
+use crate::splitting::{join_parts, replace_parts, split_parts};
 use base_types::Text;
 use values_heap::{Bytes, Halt, Heap, MAX_LENGTH, Object, ObjectRef, Val};
 use values_operators::items;
@@ -163,7 +163,6 @@ fn replace(heap: &mut Heap, whole: &[u8], xs: &[Val]) -> Result<Val, Halt>
         return Err(Halt::Code(faults::WRONG_ARGUMENTS));
     }
     let new = text_at(heap, *new)?;
-    let parts = split_parts(heap.alloc, whole, old)?;
-    let all = join_parts(heap.alloc, new, parts.as_slice())?;
+    let all = replace_parts(heap.alloc, whole, old, new)?;
     heap.make_text(all)
 }

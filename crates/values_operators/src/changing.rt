@@ -64,12 +64,13 @@ fn set_member(heap: &mut Heap, a: usize, i: i64, x: Val) -> Result<(), Halt>
     ensures { Says (set_member a (at a (store_of heap.old)) i x (store_of heap.old)) result
         (store_of heap.new) }
 {
-    let Some(
-        Object::List {
-            members: mut members,
-            frozen,
-        },
-    ) = heap.take(a)?
+    let Some(object) = heap.take(a)? else {
+        return Err(Halt::Code(faults::WRONG_TYPE));
+    };
+    let Object::List {
+        members: mut members,
+        frozen,
+    } = object.in_full(heap.alloc)?
     else {
         return Err(Halt::Code(faults::WRONG_TYPE));
     };

@@ -15,5 +15,5 @@ mod walks;
 pub use changing::set_index;
 pub use membership::has;
 pub use operators::{add, divide, is_true, multiply, negate, plus, remainder, subtract};
-pub use reading::{index, items, slice};
+pub use reading::{copy_items, index, items, slice};
 pub use walks::{compare, equal, hash};

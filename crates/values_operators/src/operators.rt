@@ -28,24 +28,24 @@ fn join(heap: &mut Heap, a: usize, b: usize) -> Result<Val, Halt>
     ensures { Says (joins (at a (store_of heap.old)) (at b (store_of heap.old)) (store_of heap.old))
         result (store_of heap.new) }
 {
-    match heap.object(a)? {
-        Some(ObjectRef::Text(x)) => match heap.object(b)? {
+    match heap.objects.object_ref(a)? {
+        Some(ObjectRef::Text(x)) => match heap.objects.object_ref(b)? {
             Some(ObjectRef::Text(y)) => {
                 let bytes = concat(heap.alloc, x.as_slice(), y.as_slice())?;
                 heap.make_text(bytes)
             }
             _ => Err(Halt::Code(faults::WRONG_TYPE)),
         },
-        Some(ObjectRef::List { members: x, .. }) => match heap.object(b)? {
+        Some(ObjectRef::List { members: x, .. }) => match heap.objects.object_ref(b)? {
             Some(ObjectRef::List { members: y, .. }) => {
-                let members = x.concat(heap.alloc, &y)?;
+                let members = x.concat(&mut heap.spare, &y)?;
                 heap.make_list(members)
             }
             _ => Err(Halt::Code(faults::WRONG_TYPE)),
         },
-        Some(ObjectRef::Tuple(x)) => match heap.object(b)? {
+        Some(ObjectRef::Tuple(x)) => match heap.objects.object_ref(b)? {
             Some(ObjectRef::Tuple(y)) => {
-                let members = x.concat(heap.alloc, &y)?;
+                let members = x.concat(&mut heap.spare, &y)?;
                 heap.make_tuple(members)
             }
             _ => Err(Halt::Code(faults::WRONG_TYPE)),
@@ -87,17 +87,17 @@ fn repeat(heap: &mut Heap, a: usize, n: i64) -> Result<Val, Halt>
     ensures { Says (repeats (at a (store_of heap.old)) n (store_of heap.old)) result
         (store_of heap.new) }
 {
-    match heap.object(a)? {
+    match heap.objects.object_ref(a)? {
         Some(ObjectRef::Text(x)) => {
             let bytes = repeated(heap.alloc, x.as_slice(), n)?;
             heap.make_text(bytes)
         }
         Some(ObjectRef::List { members: x, .. }) => {
-            let members = x.repeat(heap.alloc, n)?;
+            let members = x.repeat(&mut heap.spare, n)?;
             heap.make_list(members)
         }
         Some(ObjectRef::Tuple(x)) => {
-            let members = x.repeat(heap.alloc, n)?;
+            let members = x.repeat(&mut heap.spare, n)?;
             heap.make_tuple(members)
         }
         Some(ObjectRef::Dict { .. }) => Err(Halt::Code(faults::WRONG_TYPE)),

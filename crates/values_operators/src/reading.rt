@@ -1,5 +1,5 @@
 //! Indexing, slicing and iteration.
-ghost use Rattle.std.specs.Prelude.{[], ◌∷◌};
+ghost use Rattle.std.specs.Prelude.{◌≡◌, [], ◌∷◌};
 ghost use Rattle.values_semantics.specs.Heap.{at, makes_text};
 ghost use Rattle.values_semantics.specs.Indexing.{items, items_of, int_of, found_at, found_key, index, index_object, at_key, slice, slice_object};
 ghost use Rattle.values_heap.specs.View.{store_of, Says, Checks, ChecksItems};
@@ -121,17 +121,17 @@ fn slice_object(heap: &mut Heap, a: usize, i: Val, j: Val) -> Result<Val, Halt>
     ensures { Says (slice_object (at a (store_of heap.old)) i j (store_of heap.old)) result
         (store_of heap.new) }
 {
-    match heap.object(a)? {
+    match heap.objects.object_ref(a)? {
         Some(ObjectRef::Text(bytes)) => {
             let part = cut(heap.alloc, bytes.as_slice(), i, j)?;
             heap.make_text(part)
         }
         Some(ObjectRef::List { members, .. }) => {
-            let part = members.slice(heap.alloc, i, j)?;
+            let part = members.slice(&mut heap.spare, i, j)?;
             heap.make_list(part)
         }
         Some(ObjectRef::Tuple(members)) => {
-            let part = members.slice(heap.alloc, i, j)?;
+            let part = members.slice(&mut heap.spare, i, j)?;
             heap.make_tuple(part)
         }
         _ => Err(Halt::Code(faults::WRONG_TYPE)),
@@ -159,5 +159,28 @@ fn object_items(heap: &Heap, a: usize) -> Result<Vec<Val>, Halt>
         Some(ObjectRef::Text(_)) => Err(Halt::Code(faults::WRONG_TYPE)),
         Some(ObjectRef::Function(_, _)) => Err(Halt::Code(faults::WRONG_TYPE)),
         None => Err(Halt::Code(faults::WRONG_TYPE)),
+    }
+}
+
+/// Returns the values that an iteration goes over, as `items` does, in memory that was kept for a list if there is some.
+pub fn copy_items(heap: &mut Heap, a: Val) -> Result<Vec<Val>, Halt>
+    ensures items { ChecksItems (items a (store_of heap.old)) result }
+    ensures same { store_of heap.new ≡ store_of heap.old }
+{
+    match a {
+        Val::At(place) => copy_object_items(heap, place),
+        _ => Err(Halt::Code(faults::WRONG_TYPE)),
+    }
+}
+
+// Returns the values that an iteration over an object goes over, in memory that was kept for a list if there is some.
+fn copy_object_items(heap: &mut Heap, a: usize) -> Result<Vec<Val>, Halt>
+    ensures items { ChecksItems (items_of (at a (store_of heap.old))) result }
+    ensures same { store_of heap.new ≡ store_of heap.old }
+{
+    match heap.objects.object_ref(a)? {
+        Some(ObjectRef::List { members, .. }) => Ok(members.copy_in(&mut heap.spare)?),
+        Some(ObjectRef::Tuple(members)) => Ok(members.copy_in(&mut heap.spare)?),
+        _ => object_items(heap, a),
     }
 }

@@ -6,9 +6,6 @@ use Rattle.values_semantics.specs.Functions.{range_count, numbers}
 use Rattle.values_builtins.proofs.RangeNumbers.{range_ends, range_goes, range_last, range_long, past_the_end, sized}
 use Rattle.values_builtins.proofs.ranges.numbers.Goals as goal
 
-pub loop-members-init : goal.loop-members-init
-loop-members-init c = (rw c.in_ok-members.ensures.items refl, omega (arith, ap (length {A = Val}) c.in_ok-members.ensures.items))
-
 pub returns-then-len-ge-MAX_LENGTH : goal.returns-then-len-ge-MAX_LENGTH
 returns-then-len-ge-MAX_LENGTH c =
     let f : FitsSigned w64 c.args.from = c.ranges.from in

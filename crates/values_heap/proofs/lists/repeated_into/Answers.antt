@@ -3,7 +3,7 @@ use Rattle.values_semantics.specs.Heap.{is_sized}
 use Rattle.std.proofs.lemmas.Int.{to_z-of_z}
 use Rattle.values_heap.specs.ListSizes.{SizedAs}
 use Rattle.values_heap.proofs.Times.{repeated_low, repeated_high}
-use Rattle.values_heap.proofs.lists.repeated.Goals as goal
+use Rattle.values_heap.proofs.lists.repeated_into.Goals as goal
 
 pub returns-then-n-le0 : goal.returns-then-n-le0
 returns-then-n-le0 g c =
