@@ -4,7 +4,6 @@ from __future__ import annotations
 
 from base64 import b64decode
 from collections.abc import Mapping
-from typing import cast
 
 Members = Mapping[str, object]
 
@@ -33,7 +32,8 @@ def message_text(members: Members) -> bytes:
     """Returns a message as compilers print it, with a line for each note."""
     tail = f": {members['severity']}: {members['message']} [{members['code']}]{_users(members)}"
     lines = [_place(members) + tail.encode("utf-8", "surrogateescape")]
-    for note in cast("list[Members]", members["notes"]):
+    notes = members["notes"]
+    for note in notes if isinstance(notes, list) else []:
         lines.append(_place(note) + f": note: {note['message']}".encode())
     return b"\n".join(lines)
 
@@ -44,8 +44,8 @@ def _place(members: Members) -> bytes:
 
 def _users(members: Members) -> str:
     """Names the packages where the file does not, or where there are several."""
-    packages = cast("list[str]", members["packages"])
-    if not packages:
+    packages = members["packages"]
+    if not isinstance(packages, list) or not packages:
         return ""
     first, others = packages[0], len(packages) - 1
     if not others and first == str(members["file"]).rpartition("/")[0]:

@@ -8,7 +8,11 @@ from sefgulaw.cli.asking import Where, replies, where
 from sefgulaw.cli.output import BAD_WORDS, Failure, say
 from sefgulaw.cli.printing import Printer, printer
 from sefgulaw.cli.progress import Bar
-from sefgulaw.daemon.protocol import End, Params
+from sefgulaw.daemon.protocol import Params
+
+TYPE_CHECKING = False
+if TYPE_CHECKING:
+    from sefgulaw.daemon.members import End
 
 
 def ask(found: argparse.Namespace) -> int:

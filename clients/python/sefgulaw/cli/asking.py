@@ -6,25 +6,28 @@ import argparse
 import os
 import time
 from collections.abc import Iterator
-from typing import NamedTuple
 
 from sefgulaw.cli.output import BAD_WORDS, NO_ANSWER, Failure
 from sefgulaw.daemon.client import Client, Lost, Other, Reply, connect, hello
 from sefgulaw.daemon.place import Place
-from sefgulaw.daemon.protocol import Hello, Params
+from sefgulaw.daemon.protocol import Params
 from sefgulaw.roots import NoTree, find_loader, find_root, named_loader, no_loader
+
+TYPE_CHECKING = False
+if TYPE_CHECKING:
+    from sefgulaw.daemon.members import Hello
 
 ATTEMPTS = 5
 PAUSE = 0.05
 
 
-class Where(NamedTuple):
+class Where:
     """The tree that a command is about, and the words that say how it is asked."""
 
-    root: bytes
-    cwd: str
-    loader: str | None
-    is_direct: bool
+    __slots__ = ("cwd", "is_direct", "loader", "root")
+
+    def __init__(self, root: bytes, cwd: str, loader: str | None, is_direct: bool) -> None:
+        self.root, self.cwd, self.loader, self.is_direct = root, cwd, loader, is_direct
 
 
 def where(found: argparse.Namespace) -> Where:

@@ -4,28 +4,31 @@ from __future__ import annotations
 
 import os
 import time
-from typing import Protocol
 
 from sefgulaw.cli.output import ERR, say
 
+TYPE_CHECKING = False
+if TYPE_CHECKING:
+    from typing import Protocol
+
+    class _Drawn(Protocol):
+        """What of tqdm is used."""
+
+        total: float
+        n: float
+
+        def set_description_str(self, desc: str, refresh: bool) -> object:
+            """Sets the words before the bar."""
+
+        def refresh(self) -> object:
+            """Draws the bar again."""
+
+        def close(self) -> object:
+            """Takes the bar away."""
+
+
 WAITING = 0.5
 _VERBS = {"files": "reading", "packages": "loading"}
-
-
-class _Drawn(Protocol):
-    """What of tqdm is used."""
-
-    total: float
-    n: float
-
-    def set_description_str(self, desc: str, refresh: bool) -> object:
-        """Sets the words before the bar."""
-
-    def refresh(self) -> object:
-        """Draws the bar again."""
-
-    def close(self) -> object:
-        """Takes the bar away."""
 
 
 class Bar:

@@ -7,30 +7,30 @@ import os
 import socket
 from collections import deque
 from collections.abc import Iterator
-from typing import NamedTuple, cast
 
 from sefgulaw import __version__
 from sefgulaw.daemon.place import Place
-from sefgulaw.daemon.protocol import (
-    OTHER_DAEMON,
-    VERSION,
-    End,
-    Hello,
-    Params,
-    Progress,
-    item_head,
-    request,
-)
+from sefgulaw.daemon.protocol import OTHER_DAEMON, VERSION, Params, item_head, request
+
+TYPE_CHECKING = False
+if TYPE_CHECKING:
+    from sefgulaw.daemon.members import End, Hello, Progress
 
 _ROOM = 1 << 16
 
 
-class Reply(NamedTuple):
+class Reply:
     """One line of an answer: exactly one of the three is there."""
 
-    item: bytes | None = None
-    progress: Progress | None = None
-    end: End | None = None
+    __slots__ = ("end", "item", "progress")
+
+    def __init__(
+        self,
+        item: bytes | None = None,
+        progress: Progress | None = None,
+        end: End | None = None,
+    ) -> None:
+        self.item, self.progress, self.end = item, progress, end
 
 
 class Lost(Exception):
@@ -118,9 +118,9 @@ class Client:
             if not isinstance(members, dict) or members.get("id") != number:
                 continue
             if "progress" in members:
-                yield Reply(progress=cast(Progress, members["progress"]))
+                yield Reply(progress=members["progress"])
             elif "end" in members:
-                yield Reply(end=cast(End, members["end"]))
+                yield Reply(end=members["end"])
                 return
 
     def _line(self) -> bytes:

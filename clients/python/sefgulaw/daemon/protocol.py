@@ -9,7 +9,10 @@ from __future__ import annotations
 
 import json
 from collections.abc import Mapping
-from typing import NotRequired, TypedDict
+
+TYPE_CHECKING = False
+if TYPE_CHECKING:
+    from sefgulaw.daemon.members import Hello
 
 VERSION = 1
 LONGEST_LINE = 1 << 20
@@ -18,38 +21,8 @@ OTHER_DAEMON = 4
 """The status of a `hello` that is meant for another daemon than the one that reads it."""
 
 
-class Hello(TypedDict):
-    """The params of `hello`: the package's version, and path, size and time of the loader.
-
-    `events` is the file to which the daemon has to write events. Without it any daemon will do.
-    """
-
-    protocol: int
-    version: str
-    loader: list[object]
-    events: NotRequired[str]
-
-
 Params = Mapping[str, object]
 """The params of every other method, as the page about these lines has them."""
-
-
-class Progress(TypedDict):
-    """How far something is that a request waits for."""
-
-    done: int
-    of: int
-    what: str
-
-
-class End(TypedDict):
-    """How a request ended."""
-
-    status: int
-    version: int
-    exact: bool
-    notes: list[str]
-    summary: str
 
 
 def request(number: int, method: str, params: Hello | Params | None = None) -> bytes:

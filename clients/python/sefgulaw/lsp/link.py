@@ -9,7 +9,8 @@ from collections.abc import Callable, Mapping
 from sefgulaw.cli.asking import Where, connected
 from sefgulaw.cli.output import Failure
 from sefgulaw.daemon.client import Client, Lost, Other
-from sefgulaw.daemon.protocol import End, Hello, Params, Progress
+from sefgulaw.daemon.members import End, Hello, Progress
+from sefgulaw.daemon.protocol import Params
 from sefgulaw.plain import Members
 
 MOST_SECONDS = 5.0

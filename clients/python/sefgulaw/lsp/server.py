@@ -16,7 +16,8 @@ from typing import NamedTuple, cast
 from urllib.parse import quote, unquote, urlparse
 
 from sefgulaw import __version__
-from sefgulaw.daemon.protocol import Params, Progress
+from sefgulaw.daemon.members import Progress
+from sefgulaw.daemon.protocol import Params
 from sefgulaw.lsp import features
 from sefgulaw.lsp.diagnostics import diagnostics
 from sefgulaw.lsp.link import Link, NoDaemon
