@@ -1,9 +1,9 @@
 //! How a board is closed, and what is left of it.
-ghost use Rattle.std.specs.Prelude.{◌≡◌, ℕ, ◌+◌, ◌≤◌, true, All, length, drop, Some, MatchOption};
-ghost use Rattle.core.specs.Mem.Slots.{slots_items, slots_filled, slots_len};
-ghost use Rattle.keys.specs.Jobs.{Outcome};
+ghost use Rattle.std.specs.Prelude.{◌≡◌, ◌+◌, ◌≤◌, true, All, length, drop, Some, MatchOption};
+ghost use Rattle.core.specs.Mem.Slots.{slots_items, slots_len};
 ghost use Rattle.board.specs.Rule.{total};
-ghost use Rattle.board.specs.Places.{IsHostAtRest, IsHandAtRest, IsLeft, AllNone, HasRest, count_in, weight_in};
+ghost use Rattle.board.specs.Places.{IsHostAtRest, IsHandAtRest, IsLeft, AllNone, count_in};
+ghost use Rattle.board.specs.Results.{KeepsAnswers, IsTakenUpTo};
 ghost use mathlib.Core.Option.{some};
 ghost use lib.ListN.{get_elem?};
 
@@ -39,12 +39,11 @@ impl<R: Rules> Board<R> {
         requires hands { (host.seat.me.0.hands ≡ length hands.items)
             × All (λ h. IsHandAtRest self.table.shared.table_id h.seat) hands.items }
         ensures all { (result.next ≡ 0) × (slots_len result.closed.slots ≡ self.capacity)
-            × HasRest (slots_filled result.closed.slots) 0 (slots_len result.closed.slots) }
+            × IsTakenUpTo result.closed.slots 0 }
         ensures left { IsLeft (λ turn. turn.asked) host.seat.me.0
             (slots_items result.closed.slots) }
-        ensures answers { (wt : Outcome → ℕ) → total wt host.seat.me.0.answers + total
-            (λ h. total wt h.seat.me.0.answers) hands.items ≡ total wt host.seat.me.0.collected
-            + total (weight_in wt) (slots_items result.closed.slots) }
+        ensures answers { KeepsAnswers host.seat.me.0 hands.items (λ h. h.seat.me.0)
+            (slots_items result.closed.slots) }
         ensures shut { All (λ h. h.seat.me.0.shut ≡ true → host.seat.me.0.shut ≡ true) hands.items }
     {
         let Host { mut seat } = host;
@@ -64,13 +63,11 @@ impl<R: Rules> Board<R> {
 impl<R: Rules> Left<R> {
     /// Takes the job or the turn that is left at the next place that has one, with the place.
     pub fn next(&mut self) -> Option<(usize, Entry<Job<R>, Turned<R>>)>
-        requires { HasRest (slots_filled self.old.closed.slots) self.old.next
-            (slots_len self.old.closed.slots) }
+        requires { IsTakenUpTo self.old.closed.slots self.old.next }
         ensures same { (slots_items self.new.closed.slots ≡ slots_items self.old.closed.slots)
             × (slots_len self.new.closed.slots ≡ slots_len self.old.closed.slots)
             × (self.old.next ≤ self.new.next) }
-        ensures rest { HasRest (slots_filled self.new.closed.slots) self.new.next
-            (slots_len self.new.closed.slots) }
+        ensures rest { IsTakenUpTo self.new.closed.slots self.new.next }
         ensures found { MatchOption result
             (AllNone (slots_items self.old.closed.slots) self.old.next
             (slots_len self.old.closed.slots)) (λ left. (self.new.next ≡ left.0 + 1)
@@ -88,8 +85,7 @@ impl<R: Rules> Left<R> {
 
     /// Drops what has not been taken from it yet, and returns how much that was.
     pub fn free(self) -> usize
-        requires { HasRest (slots_filled self.closed.slots) self.next
-            (slots_len self.closed.slots) }
+        requires { IsTakenUpTo self.closed.slots self.next }
         ensures { result ≡ total count_in (drop self.next (slots_items self.closed.slots)) }
     {
         let Left { mut closed, next } = self;

@@ -1,11 +1,12 @@
 //! What the host and a hand do at one place.
-ghost use Rattle.std.specs.Prelude.{◌≡◌, ◌≢◌, ◌<◌, [], ◌∷◌, Some, None, true, false};
+ghost use Rattle.std.specs.Prelude.{◌≡◌, ◌<◌, [], ◌∷◌, Some, None, true, false};
 ghost use mathlib.Core.Option.{some};
 ghost use lib.ListN.{get_elem?};
 ghost use Rattle.board.specs.declared.view.Entry.TheVariants as entry;
 ghost use Rattle.board.specs.declared.view.Stage.TheVariants.{Empty, Held, Answered};
 ghost use Rattle.board.specs.Places.{IsAtRest, IsSame, IsFull};
 ghost use Rattle.board.specs.Plays.{looked, uses, outs, collects, answers_with};
+ghost use Rattle.board.specs.Results.{HasClaimed, HasFoundOther, HasFoundTurn};
 
 use crate::board::{Board, SeatView, Slot};
 use crate::table_rule::{Answer, Claim, Clear, LookForTurn, Post, PutJob, SeeReady};
@@ -62,14 +63,8 @@ impl<R: Rules> Board<R> {
             × (seat.old.me.0.is_host ≡ false) × (seat.old.me.0.live ≡ 1) × IsAtRest seat.old.me
             × (place < self.now.capacity) }
         ensures same { IsSame seat.old seat.new }
-        ensures claimed { result ≡ true → (job : _)
-            ×
-            (seat.new.me ≡ (
-              uses (looked seat.old.me.0 place 1) place (Held job),
-              (place, Some (entry.Job job)) ∷ [],
-            )) }
-        ensures none { result ≡ false → (n : _) × (n ≢ 1)
-            × (seat.new.me ≡ (looked seat.old.me.0 place n, [])) }
+        ensures claimed { result ≡ true → HasClaimed seat.old.me place seat.new.me }
+        ensures none { result ≡ false → HasFoundOther 1 seat.old.me place seat.new.me }
     {
         let words = &self.table.shared;
         let is_ready = words.load::<SeeReady>(seat, place) == READY;
@@ -122,15 +117,9 @@ impl<R: Rules> Board<R> {
         requires { (seat.old.table_id ≡ self.now.table.shared.table_id) × (seat.old.id ≡ 0)
             × IsAtRest seat.old.me × (place < self.now.capacity) }
         ensures same { IsSame seat.old seat.new }
-        ensures found { result ≡ true → (turn : _)
-            × (get_elem? seat.old.me.0.out place ≡ some (Some turn.asked))
-            ×
-            (seat.new.me ≡ (
-              uses (looked seat.old.me.0 place 3) place (Answered turn),
-              (place, Some (entry.Turn turn)) ∷ [],
-            )) }
-        ensures none { result ≡ false → (n : _) × (n ≢ 3)
-            × (seat.new.me ≡ (looked seat.old.me.0 place n, [])) }
+        ensures found { result ≡ true
+            → HasFoundTurn (λ turn. turn.asked) seat.old.me place seat.new.me }
+        ensures none { result ≡ false → HasFoundOther 3 seat.old.me place seat.new.me }
     {
         self.table
             .shared

@@ -29,9 +29,7 @@ use Rattle.values_modules.proofs.functions.Index.TheSendSync as IndexSends
 use Rattle.values_modules.specs.contracts.functions.Functions
 use Rattle.values_modules.specs.contracts.modules.ModuleValue
 use Rattle.values_modules.specs.contracts.modules.Module
-use Rattle.evaluator_state.proofs.state.Block.TheSendSync as BlockSends
 use Rattle.evaluator_state.proofs.state.Position.TheSendSync as StandingSends
-use Rattle.evaluator_state.proofs.state.State.TheSendSync as StateSends
 use Rattle.evaluator_state.proofs.lvalues.LValue.TheLaws.TheKnot as aims
 use Rattle.evaluator_state.proofs.gathering.Collection.TheSendSync as CollectionSends
 use Rattle.evaluator_state.specs.contracts.lvalues.LValue
@@ -46,6 +44,7 @@ use Rattle.evaluator_frames.specs.contracts.frame.Gathering
 use Rattle.evaluator_frames.specs.contracts.frame.MethodCall
 use Rattle.evaluator_frames.specs.contracts.frame.Signal
 use Rattle.evaluator_frames.specs.contracts.frame.Turns
+use Rattle.evaluator.proofs.Blocks.{block_send, state_field_send}
 use Rattle.evaluator.proofs.Trees.{trees_cross}
 use Rattle.evaluator.specs.contracts.machine.Environment
 use Rattle.evaluator.specs.contracts.machine.Machine
@@ -82,7 +81,7 @@ entries_send e h b w = IndexMapSends.the_send _ _ _ _ Hasher.the_row _ _ _ _ _ K
 
 ruleset plain_cross = (ValSends.the_field_send, ValSends.the_send, BuiltinSends.the_field_send, TextSends.the_send, TextSends.the_sync, BinarySends.the_field_send, UnarySends.the_field_send)
 
-ruleset parts_cross = (ExitSends.the_field_send, PurposeSends.the_field_send, StandingSends.the_field_send, BlockSends.the_send, CollectionSends.the_field_send, entries_send)
+ruleset parts_cross = (ExitSends.the_field_send, PurposeSends.the_field_send, StandingSends.the_field_send, block_send, CollectionSends.the_field_send, entries_send)
 
 aim_send : IsSend LValue.the_row
 aim_send = search (aims.crosses, crosses, sendable) depth 60 fits 20000
@@ -157,7 +156,7 @@ environment_field_send : IsSend (Environment.the_field).row
 environment_field_send = search (loaded_send, TextSends.the_send, PackageSends.the_field_send, trees_cross) depth 60 fits 20000
 
 machine_field_send : IsSend (Machine.the_field).row
-machine_field_send = search (StateSends.the_field_send, StandingSends.the_field_send, OpenSends.the_send, frame_send, crosses, sendable) depth 60 fits 20000
+machine_field_send = search (state_field_send, StandingSends.the_field_send, OpenSends.the_send, frame_send, crosses, sendable) depth 60 fits 20000
 
 pub suspended_send : IsSend Suspended.the_row
 suspended_send = search (environment_field_send, functions_send, machine_field_send, control_field_send, TextSends.the_send, crosses, sendable) depth 60 fits 20000

@@ -8,5 +8,6 @@ pub mod Levels
 pub mod FileEvaluation
 pub mod Answering
 pub mod Trees
+pub mod Blocks
 pub mod Crossing
 pub mod FunctionLookups

@@ -1,4 +1,5 @@
 pub mod Machines
 pub mod Finding
+pub mod Entering
 pub mod Files
 pub mod Outcomes

@@ -1,12 +1,12 @@
 //! How a call of a function of a file begins, and how it ends.
 ghost use Rattle.std.specs.Prelude.{◌≡◌, ◌≤◌, ◌<◌, ◌+◌, ◌++◌, ◌∷◌, [], ℕ, IfOk, OnErr, IsOkUnless};
 ghost use Rattle.values_heap.specs.declared.halt.Halt.TheVariants.{Memory};
-ghost use Rattle.evaluator_state.specs.View.{block_view, world_of};
-ghost use Rattle.evaluator_semantics.specs.World as world;
-ghost use Rattle.evaluator_semantics.specs.Calls.{call, inside, function_block, body_does};
+ghost use Rattle.evaluator_state.specs.View.{world_of};
+ghost use Rattle.evaluator_semantics.specs.Calls.{call};
 ghost use Rattle.evaluator_semantics.specs.Expressions.{call_object};
 ghost use Rattle.values_semantics.specs.Heap.{at};
 ghost use Rattle.values_heap.specs.View.{store_of};
+ghost use Rattle.std.specs.Arc.{arc_value};
 ghost use Rattle.syntax_tree.specs.Statements.{fn_of};
 ghost use Rattle.evaluator_semantics.specs.Arguments.{plain_part, named_part};
 ghost use Rattle.evaluator_semantics.specs.Environment.{Env, path_of};
@@ -15,7 +15,8 @@ ghost use Rattle.evaluator_frames.specs.Weight.{frames_weight, control_weight};
 ghost use Rattle.evaluator_frames.specs.declared.frame.Control.TheVariants as c;
 ghost use Rattle.evaluator_frames.specs.declared.frame.Frame.TheVariants as f;
 ghost use Rattle.evaluator.specs.Machines.{Under, means, here_in};
-ghost use Rattle.evaluator.specs.Finding.{calls_on, body_runs, IsFunction};
+ghost use Rattle.evaluator.specs.Finding.{calls_on, IsFunction};
+ghost use Rattle.evaluator.specs.Entering.{BeginsBody, AddsCaller};
 ghost use Rattle.base_types.specs.Refusals.{memory};
 
 use crate::finding::find;
@@ -91,14 +92,14 @@ fn call(
     m: &mut Machine,
     label: Text,
     path: Text,
-    def: &Def,
+    def: &Arc<Def, Global>,
     xs: &[Val],
     names: &[Text],
 ) -> Result<Control, Halt>
     ensures goes { (env : Env) (line : ℕ) → path ≡ path_of env label → let here = here_in m.old in
-        Goes (on env m.old.left here line).site
+        let f = fn_of (arc_value def.now) in Goes (on env m.old.left here line).site
         (above env m.old.left here
-        (valued (calls_on env m.old.left label (fn_of def.now) (plain_part xs.now names.now)
+        (valued (calls_on env m.old.left label f (plain_part xs.now names.now)
         (named_part xs.now names.now) (on env m.old.left here line))) m.old.frames.items
         (world_of m.old.state)) result (λ control. means env m.new control) }
     ensures light { IfOk result (λ control. (m.new.state.heap.steps ≤ m.old.state.heap.steps)
@@ -130,17 +131,10 @@ fn begin_body(
     block: Block,
 ) -> Result<Control, Halt>
     requires { 0 < m.old.left }
-    ensures goes { IfOk result (λ control. (env : Env) (line : ℕ) (parameters : world.Block)
-        → block_view block ≡ function_block (fn_of def.now) parameters → path ≡ path_of env label
-        → let here = on env m.old.left (here_in m.old) line in let f = fn_of def.now in
-        above env m.old.left (here_in m.old)
-        (valued (body_does (body_runs env m.old.left) f parameters (inside env label f here) here))
-        m.old.frames.items (world_of m.old.state) ≡ means env m.new control) }
+    ensures goes { IfOk result (BeginsBody m.old m.new label path (fn_of def.now) block) }
     ensures stands { OnErr result (m.new.at ≡ m.old.at) }
     ensures err { IsOkUnless result (Memory memory) }
-    ensures light { IfOk result (λ control. (m.new.state.heap ≡ m.old.state.heap)
-        × (frames_weight m.new.frames.items + control_weight control
-        ≡ frames_weight m.old.frames.items + 3)) }
+    ensures light { IfOk result (AddsCaller m.old m.new) }
 {
     let mut blocks = Vec::new(m.state.heap.alloc);
     blocks.push(block)?;

@@ -73,9 +73,6 @@ zip_at i names values n lt is =
     let b : drop i values ≡ get_or values i v.Nothing ∷ drop (suc i) values = drop-cons values i v.Nothing (omega arith) in
     rw (add-one, a, b)
 
-pub value_behind : (x n : List ℕ) (y : Val) (ns all : KeywordArguments) → all ≡ (n, y) ∷ ns → same_text x n ≡ false → value_named x ns ≡ value_named x all
-value_behind x n y ns all e f = sym (ap (λ l. value_named x l) e ∙ ap (λ b. cond b (Some y) (value_named x ns)) f)
-
 pub twice_here : (n : List ℕ) (y : Val) (ns all : KeywordArguments) → all ≡ (n, y) ∷ ns → is_some (value_named n ns) ≡ true → is_twice all ≡ true
 twice_here n y ns all e f = ap is_twice e ∙ ap (λ b. cond b true (is_twice ns)) (named_some n ns ∙ f)
 

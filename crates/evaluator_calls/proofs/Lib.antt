@@ -7,5 +7,6 @@ pub mod Freezes
 pub mod NamedTables
 pub mod ParameterValues
 pub mod Runs
+pub mod SparseCalls
 pub mod Still
 pub mod Worlds

@@ -1,5 +1,5 @@
 -- A table of named arguments, and a set of parameters, with one more of them, from the last to the first.
-use Rattle.std.proofs.Common.{◌≡◌, ◌+◌, ◌-◌, ◌<◌, ◌≤◌, ℕ, zero, suc, Bool, true, false, cond, List, [], ◌∷◌, length, drop, drop-cons, get_or, map, Some, None, Option, is_some, add-one, refl, ap, sym, ◌∙◌, arith}
+use Rattle.std.proofs.Common.{◌≡◌, ◌-◌, ◌<◌, ◌≤◌, ℕ, zero, suc, Bool, true, false, cond, List, [], ◌∷◌, length, drop, drop-cons, get_or, map, Some, Option, is_some, refl, ap, sym, ◌∙◌, arith}
 use Rattle.std.specs.Prelude.{zip, min, option_map}
 use Rattle.std.proofs.lemmas.List.{drop_all}
 use Rattle.std.proofs.lemmas.Option.{slice_get_read}

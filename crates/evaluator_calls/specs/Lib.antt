@@ -5,3 +5,4 @@ pub mod Once
 pub mod ParameterValue
 pub mod Thaw
 pub mod View
+pub mod SparseCalls

@@ -5,13 +5,18 @@ ghost use Rattle.evaluator_semantics.specs.Names.{new_block, all_unbound, clause
 ghost use Rattle.evaluator_semantics.specs.Arguments.{plain_part, named_part, arguments};
 ghost use Rattle.syntax_tree.specs.View.{clause_trees};
 ghost use Rattle.syntax_tree.specs.Statements.{fn_of, top_of, file_of};
+ghost use Rattle.std.specs.Arc.{arc_value};
+ghost use Rattle.evaluator_state.specs.SharedDefaults.{default_values};
 ghost use Rattle.evaluator_state.specs.View.{block_of};
 ghost use Rattle.evaluator_calls.specs.View.{Blocks, Enters};
 
 use crate::accepting::arguments;
+use crate::functions::defaults_in;
+use crate::sparse_calls::sparse_block;
 use base_types::{Memory, Text};
 use evaluator_state::{Block, Slot};
 use std::alloc::Global;
+use std::sync::Arc;
 use syntax_tree::{Clause, Def, File, Top};
 use values_heap::{Halt, Val};
 
@@ -55,6 +60,24 @@ pub fn comprehension_block(alloc: Global, clauses: &[Clause]) -> Result<Vec<Slot
 /// Returns fault 25 for an argument that is missing, is given twice, has an unknown name or is one too many. Returns
 /// `Halt::Memory` if an allocation fails.
 pub fn call_block(
+    alloc: Global,
+    def: &Arc<Def, Global>,
+    xs: &[Val],
+    names: &[Text],
+    defaults: Option<&Arc<Vec<Val>, Global>>,
+) -> Result<Block, Halt>
+    ensures { let f = fn_of (arc_value def.now) in Enters f
+        (arguments f (plain_part xs.now names.now) (named_part xs.now names.now)
+        (default_values defaults.entry)) result }
+{
+    if let Some(block) = sparse_block(alloc, def, xs, names, defaults)? {
+        return Ok(block);
+    }
+    slot_block(alloc, def, xs, names, defaults_in(defaults))
+}
+
+// Makes the block of a call, with a slot for each name.
+fn slot_block(
     alloc: Global,
     def: &Def,
     xs: &[Val],

@@ -7,6 +7,7 @@ ghost use Rattle.evaluator_state.specs.Places.{FirstPlace, is_file};
 
 use base_types::Text;
 use evaluator_state::{FileNames, FunctionDefaults, State};
+use std::sync::Arc;
 use values_heap::{Halt, Val};
 
 // Returns the place of the file with a label.
@@ -41,7 +42,9 @@ pub fn keep_defaults(
         return Ok(());
     };
     let function = name.share()?;
+    let alloc = state.heap.alloc;
     let file = &mut state.files[i];
+    let values = Arc::new(alloc, values)?;
     file.defaults.add(FunctionDefaults { function, values })?;
     Ok(())
 }

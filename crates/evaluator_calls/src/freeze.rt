@@ -8,6 +8,7 @@ ghost use Rattle.values_heap.specs.View.{store_of, Says, SaysItems};
 ghost use Rattle.evaluator_state.specs.View.{block_view, names_of};
 ghost use Rattle.evaluator_calls.specs.Freeze.{freeze_values, freeze_names, freeze_defaults, bound_value, block_among, slot_names, SaysFrozen, SaysDefaults};
 
+use crate::functions::defaults_in;
 use crate::{defaults_among, file_with};
 use base_types::Text;
 use evaluator_state::{Block, FileNames, Slot, slot_in};
@@ -101,7 +102,7 @@ fn freeze_of(heap: &mut Heap, files: &[FileNames], label: &Text, f: &Def) -> Res
         (store_of heap.old)) result (store_of heap.new) }
     ensures steps { IfOk result (λ _. heap.new.steps ≤ heap.old.steps) }
 {
-    let values = match freeze_values(heap, defaults_among(files, label, &f.name)) {
+    let values = match freeze_values(heap, defaults_in(defaults_among(files, label, &f.name))) {
         Ok(values) => values,
         Err(halt) => return Err(halt),
     };

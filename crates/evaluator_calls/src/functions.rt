@@ -3,11 +3,14 @@ ghost use Rattle.std.specs.Prelude.{◌≡◌, map, option_map};
 ghost use Rattle.evaluator_semantics.specs.Environment.{defaults_among, defaults_of};
 ghost use Rattle.evaluator_semantics.specs.Calls.{is_running};
 ghost use Rattle.evaluator_semantics.specs.Names.{names_at};
+ghost use Rattle.evaluator_state.specs.SharedDefaults.{default_values};
 ghost use Rattle.evaluator_state.specs.View.{world_of, names_of};
 ghost use Rattle.evaluator_calls.specs.View.{running_of, open_of};
 
 use base_types::Text;
 use evaluator_state::{FileNames, State};
+use std::alloc::Global;
+use std::sync::Arc;
 use values_heap::Val;
 
 /// A function that is being called: the label of its file and its name.
@@ -51,18 +54,37 @@ pub fn file_with<'a>(files: &'a [FileNames], label: &Text) -> Option<&'a FileNam
 }
 
 /// Returns the values of a function's defaults, in these files, or none if the file has no such function.
-pub fn defaults_among<'a>(files: &'a [FileNames], label: &Text, name: &Text) -> &'a [Val]
-    ensures { result.now ≡ defaults_among name.now (names_at label.now (map names_of files.now)) }
+pub fn defaults_among<'a>(
+    files: &'a [FileNames],
+    label: &Text,
+    name: &Text,
+) -> Option<&'a Arc<Vec<Val>, Global>>
+    ensures { default_values result ≡ defaults_among name.now
+        (names_at label.now (map names_of files.now)) }
 {
     match file_with(files, label) {
         Some(file) => file.defaults.defaults_named(name),
+        None => None,
+    }
+}
+
+/// Returns the values of defaults that may be shared.
+pub fn defaults_in(defaults: Option<&Arc<Vec<Val>, Global>>) -> &[Val]
+    ensures { result.now ≡ default_values defaults.entry }
+{
+    match defaults {
+        Some(values) => values.as_slice(),
         None => &[],
     }
 }
 
 /// Returns the values of a function's defaults, or none if the file has no such function.
-pub fn defaults_of<'a>(state: &'a State, label: &Text, name: &Text) -> &'a [Val]
-    ensures { result.now ≡ defaults_of label.now name.now (world_of state.now) }
+pub fn defaults_of<'a>(
+    state: &'a State,
+    label: &Text,
+    name: &Text,
+) -> Option<&'a Arc<Vec<Val>, Global>>
+    ensures { default_values result ≡ defaults_of label.now name.now (world_of state.now) }
 {
     defaults_among(state.files.as_slice(), label, name)
 }

@@ -14,6 +14,7 @@ mod module_parts;
 mod named_arguments;
 mod naming;
 mod reaching;
+mod sparse_calls;
 mod thaw;
 
 pub use blocks::{call_block, comprehension_block, file_block, own_block};

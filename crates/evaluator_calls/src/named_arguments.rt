@@ -9,6 +9,7 @@ ghost use Rattle.syntax_tree.specs.Statements.{param_of};
 ghost use Rattle.evaluator_calls.specs.NamedArguments.{Finds};
 
 use base_types::{Memory, Text};
+use evaluator_state::value_named;
 use std::alloc::Global;
 use std::collections::{HashMap, HashSet};
 use std::marker::Model;
@@ -43,18 +44,6 @@ impl<'a> Model for NamedArguments<'a> {
     ghost view = { λ n. zip n.names.now n.values.now };
 
     ghost invariant = { λ n. ForSome n.table (λ t. Finds t.values (zip n.names.now n.values.now)) };
-}
-
-// Returns the value of a named argument.
-fn value_named(names: &[Text], values: &[Val], x: &Text) -> Option<Val>
-    ensures { result ≡ value_named x.now (zip names.now values.now) }
-{
-    for i in 0..names.len().min(values.len()) {
-        if *x == names[i] {
-            return Some(values[i]);
-        }
-    }
-    None
 }
 
 // Returns whether a name occurs twice.

@@ -7,6 +7,7 @@ ghost use Rattle.evaluator_state.specs.View.{block_of};
 ghost use Rattle.evaluator_calls.specs.Thaw.{behind, thaw_names, thaw_defaults, SaysBlock, SaysKept};
 
 use evaluator_state::{FunctionDefaults, Slot};
+use std::sync::Arc;
 use values_freeze::FrozenValue;
 use values_heap::{Halt, Heap, Val};
 use values_modules::{Binding, Defaults};
@@ -66,6 +67,7 @@ pub fn thaw_defaults(heap: &mut Heap, defaults: &[Defaults]) -> Result<Vec<Funct
             Err(halt) => return Err(halt),
         };
         let function = d.name().share()?;
+        let values = Arc::new(heap.alloc, values)?;
         all.push(FunctionDefaults { function, values })?;
     }
     Ok(all)

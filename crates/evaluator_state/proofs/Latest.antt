@@ -7,6 +7,7 @@ use Rattle.std.proofs.lemmas.Option.{slice_get_past, same_Some}
 use Rattle.std.specs.Prelude.{not, nat_lt, position, reverse, slice_get, Option, Some, None, IfSome, IsSomeAnd}
 use Rattle.std.specs.List.{position_or_len}
 use lib.Pointwise.{bytes_decides}
+use Rattle.std.specs.Arc.{arc_value}
 use Rattle.values_semantics.specs.declared.val.Val.{Val}
 use Rattle.values_semantics.specs.Comparing.{same_text}
 use Rattle.indexmap.specs.IndexSet.{IndexSet}
@@ -72,19 +73,19 @@ values_append x (e ∷ ds) d = ap (λ l. cond (same_text x e.0) e.1 l) (values_a
     apart true b l m n = refl
     apart false b l m n = refl
 
-values_oldest : (x : List ℕ) (k : FunctionDefaults) (ks : List FunctionDefaults) → values_named x (newest_first (k ∷ ks)) ≡ cond (has_name x (kept_names ks)) (values_named x (newest_first ks)) (cond (same_text x k.function) k.values.items [])
+values_oldest : (x : List ℕ) (k : FunctionDefaults) (ks : List FunctionDefaults) → values_named x (newest_first (k ∷ ks)) ≡ cond (has_name x (kept_names ks)) (values_named x (newest_first ks)) (cond (same_text x k.function) (arc_value k.values).items [])
 values_oldest x k ks =
     ap (values_named x) (oldest ks k)
     ∙ values_append x (newest_first ks) (kept_of k)
-    ∙ ap (λ b. cond b (values_named x (newest_first ks)) (cond (same_text x k.function) k.values.items [])) (has_names x ks)
+    ∙ ap (λ b. cond b (values_named x (newest_first ks)) (cond (same_text x k.function) (arc_value k.values).items [])) (has_names x ks)
 
 none_named : (x : List ℕ) (ks : List FunctionDefaults) → has_name x (kept_names ks) ≡ false → values_named x (newest_first ks) ≡ []
 none_named x [] h = refl
 none_named x (k ∷ ks) h =
     let n = neither (same_text x k.function) (has_name x (kept_names ks)) h in
     values_oldest x k ks
-    ∙ ap (λ b. cond b (values_named x (newest_first ks)) (cond (same_text x k.function) k.values.items [])) n.1
-    ∙ ap (λ b. cond b k.values.items []) n.0
+    ∙ ap (λ b. cond b (values_named x (newest_first ks)) (cond (same_text x k.function) (arc_value k.values).items [])) n.1
+    ∙ ap (λ b. cond b (arc_value k.values).items []) n.0
   where
     neither : (a b : Bool) → cond a true b ≡ false → (a ≡ false) × (b ≡ false)
     neither true b e = cc
@@ -110,9 +111,9 @@ behind x k ks a true e h = h ∙ ap (held_at (k ∷ ks)) (one_before a)
 behind x k ks a false e h = sym (none_named x ks e) ∙ h ∙ ap (held_at (k ∷ ks)) (one_before a)
 
 step : (x : List ℕ) (k : FunctionDefaults) (ks : List FunctionDefaults) (a : ℕ) (b : Bool) → same_text x k.function ≡ b → has_name k.function (kept_names ks) ≡ false → values_named x (newest_first ks) ≡ held_at ks a
-    → cond (has_name x (kept_names ks)) (values_named x (newest_first ks)) (cond b k.values.items []) ≡ held_at (k ∷ ks) (cond (not b) (1 + a) 0)
+    → cond (has_name x (kept_names ks)) (values_named x (newest_first ks)) (cond b (arc_value k.values).items []) ≡ held_at (k ∷ ks) (cond (not b) (1 + a) 0)
 step x k ks a true e absent h =
-    ap (λ t. cond t (values_named x (newest_first ks)) k.values.items) (ap (λ y. has_name y (kept_names ks)) ((bytes_decides x k.function).0 e) ∙ absent)
+    ap (λ t. cond t (values_named x (newest_first ks)) (arc_value k.values).items) (ap (λ y. has_name y (kept_names ks)) ((bytes_decides x k.function).0 e) ∙ absent)
 step x k ks a false e absent h = behind x k ks a (has_name x (kept_names ks)) refl h
 
 leads : (x : List ℕ) (ks : List FunctionDefaults) → differ (kept_names ks) ≡ true → values_named x (newest_first ks) ≡ held_at ks (position_or_len (same_text x) (kept_names ks))

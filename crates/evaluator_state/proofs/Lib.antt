@@ -4,4 +4,5 @@ pub mod HeapPieces
 pub mod Latest
 pub mod ListEnds
 pub mod Searches
+pub mod SparseNames
 pub mod Targets

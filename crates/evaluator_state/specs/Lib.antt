@@ -3,5 +3,7 @@ pub mod Newest
 pub mod Once
 pub mod Places
 pub mod Scope
+pub mod SharedDefaults
+pub mod Sparse
 pub mod TargetNames
 pub mod View

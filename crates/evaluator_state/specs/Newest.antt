@@ -1,13 +1,14 @@
 -- The defaults of functions, the newest first, and a set of the functions' names.
 use Rattle.std.specs.Prelude.{◌≡◌, ℕ, List, [], ◌∷◌, map, reverse, true, Option, Some, None, slice_get}
 use Rattle.std.specs.Option.{ForSome}
+use Rattle.std.specs.Arc.{arc_value}
 use Rattle.indexmap.specs.IndexSet.{IndexSet}
 use Rattle.values_semantics.specs.declared.val.Val.{Val}
 use Rattle.evaluator_state.specs.declared.state.FunctionDefaults.{FunctionDefaults}
 use Rattle.evaluator_state.specs.Once.{differ}
 
 abbrev pub kept_of : FunctionDefaults → List ℕ × List Val
-kept_of k = (k.function, k.values.items)
+kept_of k = (k.function, (arc_value k.values).items)
 
 -- the last is the newest
 abbrev pub newest_first : List FunctionDefaults → List (List ℕ × List Val)
@@ -23,7 +24,7 @@ Lists index ks = ForSome index (λ s. (s.keys ≡ kept_names ks) × (differ (kep
 
 abbrev pub values_in : Option FunctionDefaults → List Val
 values_in None = []
-values_in (Some k) = k.values.items
+values_in (Some k) = (arc_value k.values).items
 
 -- the values at a place, or none
 abbrev pub values_at : List FunctionDefaults → Option ℕ → List Val

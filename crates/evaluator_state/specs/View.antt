@@ -12,6 +12,8 @@ use Rattle.values_modules.specs.Values as v
 use Rattle.evaluator_semantics.specs.World.{World, Block, Names, Site, Here, Ends, ended, failed}
 use Rattle.evaluator_state.specs.declared.state.Slot.{Slot}
 use Rattle.evaluator_state.specs.declared.state.Block as m
+use Rattle.evaluator_state.specs.declared.state.Block.TheVariants as b
+use Rattle.evaluator_state.specs.Sparse.{sparse_view}
 use Rattle.evaluator_state.specs.declared.state.FileNames.{FileNames}
 use Rattle.evaluator_state.specs.declared.state.Attribute.{Attribute}
 use Rattle.evaluator_state.specs.declared.state.Attribute.TheVariants as a
@@ -30,7 +32,8 @@ abbrev pub block_of : Vec Slot Global → Block
 block_of block = map slot_of block.items
 
 abbrev pub block_view : m.Block → Block
-block_view b = block_of b.slots
+block_view (b.Slots s) = block_of s.slots
+block_view (b.Sparse s) = sparse_view s
 
 abbrev pub names_of : FileNames → Names
 names_of f = record { label = f.label; block = block_view f.block; defaults = f.defaults }

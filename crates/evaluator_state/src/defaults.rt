@@ -2,6 +2,7 @@
 ghost use Rattle.std.specs.Prelude.{◌≡◌, ◌∷◌, ◌++◌, [], map, false, IfOk, IfSome, IsSomeAnd, OnOk, OnErr};
 ghost use Rattle.evaluator_semantics.specs.Environment.{values_named};
 ghost use Rattle.evaluator_semantics.specs.Names.{has_name};
+ghost use Rattle.evaluator_state.specs.SharedDefaults.{default_values};
 ghost use Rattle.evaluator_state.specs.Newest.{kept_of, newest_first, values_at, Lists};
 
 use crate::marking::mark_defaults;
@@ -10,6 +11,7 @@ use base_types::{Memory, Text};
 use indexmap::IndexSet;
 use std::alloc::Global;
 use std::marker::Model;
+use std::sync::Arc;
 use values_heap::{Marks, Val};
 
 /// The most functions that are searched one by one; for more a set of their names is made.
@@ -43,13 +45,13 @@ impl Model for DefaultsTable {
 }
 
 // Returns the defaults of the newest function with a name.
-fn newest_named<'a>(kept: &'a [FunctionDefaults], name: &Text) -> &'a [Val]
-    ensures { result.now ≡ values_named name.now (newest_first kept.now) }
+fn newest_named<'a>(kept: &'a [FunctionDefaults], name: &Text) -> Option<&'a Arc<Vec<Val>, Global>>
+    ensures { default_values result ≡ values_named name.now (newest_first kept.now) }
 {
-    let mut newest: &[Val] = &[];
+    let mut newest = None;
     for k in kept.iter() {
         if *name == k.function {
-            newest = k.values.as_slice();
+            newest = Some(&k.values);
         }
     }
     newest
@@ -70,15 +72,18 @@ fn index_of(alloc: Global, kept: &[FunctionDefaults]) -> Result<Option<IndexSet<
 }
 
 // Returns the defaults of the function at a place, or none if there is no place.
-fn values_at<'a>(kept: &'a [FunctionDefaults], place: Option<usize>) -> &'a [Val]
-    ensures { result.now ≡ values_at kept.now place }
+fn values_at<'a>(
+    kept: &'a [FunctionDefaults],
+    place: Option<usize>,
+) -> Option<&'a Arc<Vec<Val>, Global>>
+    ensures { default_values result ≡ values_at kept.now place }
 {
     match place {
         Some(i) => match kept.get(i) {
-            Some(k) => k.values.as_slice(),
-            None => &[],
+            Some(k) => Some(&k.values),
+            None => None,
         },
-        None => &[],
+        None => None,
     }
 }
 
@@ -163,8 +168,8 @@ impl DefaultsTable {
 
     /// Returns the defaults of the newest function with a name, or none if there is no such function. Where there are
     /// many functions, whose names differ, it takes no search.
-    pub fn defaults_named(&self, name: &Text) -> &[Val]
-        ensures { result.now ≡ values_named name.now self.now }
+    pub fn defaults_named(&self, name: &Text) -> Option<&Arc<Vec<Val>, Global>>
+        ensures { default_values result ≡ values_named name.now self.now }
     {
         match &self.index {
             Some(names) => values_at(self.kept.as_slice(), names.get_index_of(name)),

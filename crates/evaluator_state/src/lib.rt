@@ -14,6 +14,7 @@ mod operators;
 mod package_targets;
 mod places;
 mod reading;
+mod sparse;
 mod state;
 mod universal;
 
@@ -31,8 +32,9 @@ pub use objects::{
 pub use operators::{eval_binary, is_true, unary};
 pub use package_targets::PackageTargets;
 pub use reading::{bind, is_native_name, read, read_in_scope, slot, slot_in_scope};
+pub use sparse::{SparseBlock, value_named};
 pub use state::{
-    Attribute, Block, FileNames, FunctionDefaults, Position, Scope, Slot, State, Target,
+    Attribute, Block, FileNames, FunctionDefaults, Position, Scope, Slot, SlotBlock, State, Target,
     TargetAttribute,
 };
 pub use universal::{is_native, package_function, plain_function};

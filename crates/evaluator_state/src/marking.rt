@@ -1,17 +1,36 @@
 //! Which objects the names of an evaluation reach.
 
-use crate::state::{Block, FileNames, FunctionDefaults, State};
+use crate::sparse::SparseBlock;
+use crate::state::{Block, FileNames, FunctionDefaults, SlotBlock, State};
 use base_types::Memory;
 use values_heap::Marks;
 
-// Marks the values of a block's names as reached.
-fn mark_block(reached: &mut Marks, block: &Block) -> Result<(), Memory> {
+// Marks the values of slots as reached.
+fn mark_slots(reached: &mut Marks, block: &SlotBlock) -> Result<(), Memory> {
     for slot in block.slots.iter() {
         if let Some(value) = slot.value {
             reached.add(value)?;
         }
     }
     Ok(())
+}
+
+// Marks what a call gave, and the values that were bound since, as reached. The defaults are reached by their file.
+fn mark_sparse(reached: &mut Marks, block: &SparseBlock) -> Result<(), Memory> {
+    reached.add_all(block.positional.as_slice())?;
+    reached.add_all(block.values.as_slice())?;
+    for value in block.bound.values() {
+        reached.add(*value)?;
+    }
+    Ok(())
+}
+
+// Marks the values of a block's names as reached.
+fn mark_block(reached: &mut Marks, block: &Block) -> Result<(), Memory> {
+    match block {
+        Block::Slots(block) => mark_slots(reached, block),
+        Block::Sparse(block) => mark_sparse(reached, block),
+    }
 }
 
 /// Marks the values of the names in blocks as reached.

@@ -6,7 +6,7 @@ ghost use Rattle.evaluator_state.specs.Once.{names_in, differ};
 ghost use Rattle.evaluator_state.specs.View.{block_of, block_view};
 ghost use Rattle.evaluator_state.specs.Places.{FirstPlace, FirstSo, is_slot};
 
-use crate::state::{Block, Slot};
+use crate::state::{Block, Slot, SlotBlock};
 use base_types::{Memory, Text};
 use indexmap::IndexSet;
 use std::alloc::Global;
@@ -36,7 +36,8 @@ pub(crate) fn same_bytes(a: &[u8], b: &[u8]) -> bool
     true
 }
 
-fn is_same(x: &Text, y: &Text) -> bool
+/// Returns whether two names are the same.
+pub(crate) fn is_same(x: &Text, y: &Text) -> bool
     ensures { result ≡ same_text x.now y.now }
 {
     same_bytes(x.as_str().as_bytes(), y.as_str().as_bytes())
@@ -55,7 +56,7 @@ fn first_place(slots: &[Slot], x: &Text) -> Option<usize>
 }
 
 /// Returns whether a name is known to be first at a place.
-pub(crate) fn is_at(block: &Block, x: &Text, place: usize) -> bool
+pub(crate) fn is_at(block: &SlotBlock, x: &Text, place: usize) -> bool
     ensures { result ≡ true → FirstSo (is_slot x.now) block.now.slots.items place }
 {
     if !block.once || place >= block.slots.len() {
@@ -65,7 +66,7 @@ pub(crate) fn is_at(block: &Block, x: &Text, place: usize) -> bool
 }
 
 // Returns the place of a name in a block, wherever it was found before.
-fn search(block: &Block, x: &Text) -> Option<usize>
+fn search(block: &SlotBlock, x: &Text) -> Option<usize>
     ensures { FirstPlace (is_slot x.now) block.now.slots.items result }
 {
     match &block.index {
@@ -75,7 +76,7 @@ fn search(block: &Block, x: &Text) -> Option<usize>
 }
 
 /// Returns the place of a name in a block, which is where it was found last unless other code was executed in between.
-pub fn place_in(block: &Block, x: &Text, last: &AtomicUsize) -> Option<usize>
+pub(crate) fn place_in(block: &SlotBlock, x: &Text, last: &AtomicUsize) -> Option<usize>
     ensures { FirstPlace (is_slot x.now) block.now.slots.items result }
 {
     let place = last.load(Ordering::Relaxed);
@@ -123,11 +124,11 @@ impl Block {
         requires { differ (names_in slots.items) ≡ true }
         ensures { block_view result ≡ block_of slots }
     {
-        Block {
+        Block::Slots(SlotBlock {
             slots,
             once: true,
             index: None,
-        }
+        })
     }
 
     /// Makes a block with these slots.
@@ -140,14 +141,14 @@ impl Block {
     {
         if slots.len() <= FEW {
             let once = few_differ(slots.as_slice());
-            return Ok(Block {
+            return Ok(Block::Slots(SlotBlock {
                 slots,
                 once,
                 index: None,
-            });
+            }));
         }
         let index = index_of(*slots.allocator(), slots.as_slice())?;
         let once = index.is_some();
-        Ok(Block { slots, once, index })
+        Ok(Block::Slots(SlotBlock { slots, once, index }))
     }
 }

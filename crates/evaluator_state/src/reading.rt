@@ -120,7 +120,7 @@ pub fn bind(
         (world_of state.new) }
     ensures heap { state.new.heap ≡ state.old.heap }
 {
-    if bind_among(&mut state.blocks, x, last, value) {
+    if bind_among(&mut state.blocks, x, last, value)? {
         return Ok(());
     }
     bind_global(&mut state.files, at, x, last, value)
@@ -145,7 +145,7 @@ fn bind_global(
     let file = &mut files[i];
     match slot_in(&file.block, x, last) {
         Some(None) => {
-            bind_in(&mut file.block, x, last, value);
+            bind_in(&mut file.block, x, last, value)?;
             Ok(())
         }
         Some(Some(_)) => Err(Halt::Code(faults::BOUND_TWICE)),

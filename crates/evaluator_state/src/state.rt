@@ -5,8 +5,11 @@ ghost use Rattle.evaluator_state.specs.Once.{names_in, differ};
 
 use crate::defaults::DefaultsTable;
 use crate::package_targets::PackageTargets;
+use crate::sparse::SparseBlock;
 use base_types::Text;
 use indexmap::IndexSet;
+use std::alloc::Global;
+use std::sync::Arc;
 use syntax_grammar::FileKind;
 use values_heap::{Builtin, Bytes, Heap, Val};
 
@@ -23,7 +26,24 @@ impl Drop for Slot {
 }
 
 /// The names of a function, a comprehension or a file.
-pub struct Block {
+pub enum Block {
+    /// Each name has its slot.
+    Slots(SlotBlock),
+    /// The names of a function with many of them.
+    Sparse(SparseBlock),
+}
+
+impl Drop for Block {
+    fn drop(self) {
+        match self {
+            Block::Slots(_) => {}
+            Block::Sparse(_) => {}
+        }
+    }
+}
+
+/// Names of which each has its slot.
+pub struct SlotBlock {
     pub slots: Vec<Slot>,
     /// Whether each name is known to be there once, so that no other place need be searched where it is found.
     pub once: bool,
@@ -33,9 +53,9 @@ pub struct Block {
     pub ghost listed: { ForSome index (λ s. s.keys ≡ names_in slots.items) },
 }
 
-impl Drop for Block {
+impl Drop for SlotBlock {
     fn drop(self) {
-        let Block {
+        let SlotBlock {
             slots: _,
             once: _,
             index: _,
@@ -46,7 +66,7 @@ impl Drop for Block {
 /// The values of a function's defaults, in the order of its parameters.
 pub struct FunctionDefaults {
     pub function: Text,
-    pub values: Vec<Val>,
+    pub values: Arc<Vec<Val>, Global>,
 }
 
 impl Drop for FunctionDefaults {

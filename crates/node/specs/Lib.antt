@@ -7,3 +7,4 @@ pub mod Comparisons
 pub mod Batches
 pub mod Counts
 pub mod Laws
+pub mod Changes

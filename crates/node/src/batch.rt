@@ -1,17 +1,14 @@
 //! Records that are stored together, all or none.
-ghost use Rattle.std.specs.Prelude.{◌≡◌, ◌≢◌, length, IfOk, OnOk, OnErr};
+ghost use Rattle.std.specs.Prelude.{◌≡◌, length, IfOk, OnOk, OnErr};
 ghost use Rattle.node_table.specs.Tables.{AreDistinct};
-ghost use Rattle.engine_semantics.specs.Graph.{Record};
-ghost use Rattle.engine_semantics.specs.Value.{AllDiffer, In};
-ghost use Rattle.keys.specs.declared.key.Key.{Key};
-ghost use Rattle.keys.specs.declared.value.Value.{Value};
+ghost use Rattle.engine_semantics.specs.Value.{AllDiffer};
 ghost use Rattle.std.specs.Arc.{arc_value};
 ghost use Rattle.std.specs.Map.{keys_of as keys_of_records};
 ghost use Rattle.node.specs.Records.{Records, numbers_of, users_of, AreNumbers, AsksNumbers, KeepsRecords};
-ghost use Rattle.node.specs.Writes.{settled_record};
-ghost use Rattle.node.specs.Edges.{HasUsers, SameUsers};
-ghost use Rattle.node.specs.Graphs.{IsLinkedBy, Sets, records_of};
-ghost use Rattle.node.specs.Batches.{entry_groups, keys_of, HasReadyEntries, SetsAll, HasPlacedSome, IsThere, HasPlacedAll, AreRecorded, HaveMembers, AreUsers, HasFewer, HasLinkedEntries, HasLinkedEach, HasCutAll, IsToWrite, HasWrittenAll, HasReadyFlat, flats_in};
+ghost use Rattle.node.specs.Edges.{SameUsers};
+ghost use Rattle.node.specs.Graphs.{IsLinkedBy, records_of};
+ghost use Rattle.node.specs.Batches.{entry_groups, keys_of, HasReadyEntries, SetsAll, HasPlacedSome, IsThere, HasPlacedAll, AreRecorded, HaveMembers, AreUsers, HasFewer, HasLinkedEntries, HasLinkedEach, HasCutAll, HasReadyFlat, flats_in};
+ghost use Rattle.node.specs.Changes.{KeepsRecordsBut, SetsSettled, Relinks, IsToBeWritten, AreToBeWritten, WritesAll};
 ghost use Rattle.node.specs.declared.entry.Entry.{Entry};
 
 use crate::edges::{drop_edges, drop_edges_to, link_groups, members_with};
@@ -36,8 +33,7 @@ fn place_entry(
         → HasPlacedSome original records.new }
     ensures there { OnOk result (IsThere (records_of records.old) (records_of records.new) entry.now
         version) }
-    ensures others { (k : Key) → entry.now.key ≢ k → records_of records.new k ≡ records_of
-        records.old k }
+    ensures others { KeepsRecordsBut entry.now.key records.old records.new }
     ensures asks { AsksNumbers records.new }
     ensures lists { SameUsers (numbers_of records.old) (numbers_of records.new) }
     ensures ordered { AreDistinct records.new }
@@ -134,13 +130,10 @@ fn cut_all(records: &mut Records, entries: &[Entry])
 fn write_entry(records: &mut Records, entry: Entry, flat: FlatGroups, version: u32)
     requires asks { AsksNumbers records.old }
     requires members { HasReadyFlat records.old entry flat }
-    requires ready { (w : Record Key Value) × IsToWrite (records_of records.old) (users_of
-        records.old) entry w }
-    ensures sets { Sets (records_of records.old) (records_of records.new) entry.key
-        (settled_record (records_of records.old entry.key) (arc_value entry.value) (entry_groups
-        entry) version) }
-    ensures users { HasUsers (users_of records.old) (users_of records.new) entry.key (entry_groups
-        entry) }
+    requires ready { IsToBeWritten records.old entry }
+    ensures sets { SetsSettled records.old records.new entry.key (arc_value entry.value)
+        (entry_groups entry) version }
+    ensures users { Relinks records.old records.new entry.key (entry_groups entry) }
     ensures fewer { HasFewer (numbers_of records.old) (numbers_of records.new) }
     ensures keys { keys_of_records records.new ≡ keys_of_records records.old }
     ensures asks { AsksNumbers records.new }
@@ -167,10 +160,8 @@ fn write_all(
     requires members { HaveMembers (records_of records.old) entries.items }
     requires flats { flats.items ≡ flats_in records.old entries.items }
     requires differ { AllDiffer (keys_of entries.items) }
-    requires ready { (e : Entry) → In e entries.items → (w : Record Key Value)
-        × IsToWrite (records_of records.old) (users_of records.old) e w }
-    ensures written { HasWrittenAll (records_of records.old) (records_of records.new) (users_of
-        records.old) (users_of records.new) entries.items version }
+    requires ready { AreToBeWritten records.old entries.items }
+    ensures written { WritesAll records.old records.new entries.items version }
     ensures fewer { HasFewer (numbers_of records.old) (numbers_of records.new) }
     ensures keys { keys_of_records records.new ≡ keys_of_records records.old }
     ensures asks { AsksNumbers records.new }

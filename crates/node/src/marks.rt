@@ -11,6 +11,7 @@ ghost use Rattle.node.specs.Records.{Records, AreNumbers, kept_at, numbers_of, n
 ghost use Rattle.node.specs.Marks.{HasReached, HasReachedAll, HasReachedSome, HasSpread, HasPassed, Lists, Marked, SetsMarks};
 ghost use Rattle.node.specs.declared.records.NodeRecord.{NodeRecord};
 ghost use Rattle.node.specs.Graphs.{paths_seen};
+ghost use Rattle.node.specs.Changes.{users_with};
 
 use crate::records::Records;
 use base_types::{Memory, Text};
@@ -156,10 +157,8 @@ fn dirty_rdeps(
     requires users { All (λ n. n < length records.old) (numbers_with records.old number) }
     requires distinct { AreDistinct records.old }
     ensures some { HasReachedSome records.old records.new (members_in records.old marked.old.items)
-        (members_in records.new marked.new.items)
-        (members_in records.old (numbers_with records.old number)) }
-    ensures all { OnOk result
-        (HasReachedAll records.new (members_in records.old (numbers_with records.old number))) }
+        (members_in records.new marked.new.items) (users_with records.old number) }
+    ensures all { OnOk result (HasReachedAll records.new (users_with records.old number)) }
     ensures work { cleans records.new + vec_len marked.new ≤ cleans records.old
         + vec_len marked.old }
     ensures lists { Lists records.old marked.old.items marked.new.items }

@@ -2,14 +2,13 @@
 ghost use Rattle.std.specs.Prelude.{◌≡◌, ◌<◌, Some, None, false, length, OnOk, OnErr, IsSome, if◌then◌else◌};
 ghost use Rattle.std.specs.Arc.{arc_value};
 ghost use Rattle.std.specs.Map.{keys_of};
-ghost use Rattle.engine_semantics.specs.Value.{IsMember};
 ghost use Rattle.node_table.specs.Tables.{AreDistinct, Writes, key_at};
 ghost use Rattle.keys.specs.Values.{value_eq};
 ghost use Rattle.keys.specs.declared.key.Key.{Key};
-ghost use Rattle.node.specs.Records.{kept_at, items_of, numbers_of, users_of, AreNumbers, AsksNumbers, KeepsRecords, asked_of};
-ghost use Rattle.node.specs.Writes.{record_after_write, settled_record, HasPlaced, HasReadyMembers, SameSets};
-ghost use Rattle.node.specs.Edges.{HasUsers};
+ghost use Rattle.node.specs.Records.{kept_at, items_of, numbers_of, AreNumbers, AsksNumbers, KeepsRecords, asked_of};
+ghost use Rattle.node.specs.Writes.{record_after_write, settled_record, HasPlaced, HasReadyMembers};
 ghost use Rattle.node.specs.Graphs.{IsLinkedBy, Sets, records_of};
+ghost use Rattle.node.specs.Changes.{KeepsRecordsAndUsers, HasMemberRecords, SetsSettled, Relinks};
 ghost use Rattle.node.specs.declared.records.NodeRecord.{NodeRecord};
 
 use crate::edges::{drop_edges_except, drop_edges_to, link_members, members_beside, members_with};
@@ -120,15 +119,11 @@ pub fn rewrite(
 ) -> Result<(), Memory>
     requires recorded { IsSome (records_of records.old key.now) }
     requires linked { IsLinkedBy records.old }
-    requires members { (j : Key) → IsMember j (items_of groups.items)
-        → IsSome (records_of records.old j) }
-    ensures ok { OnOk result (Sets (records_of records.old) (records_of records.new) key.now
-        (settled_record (records_of records.old key.now) (arc_value value) (items_of groups.items)
-        version)) }
-    ensures users { OnOk result (HasUsers (users_of records.old) (users_of records.new) key.now
-        (items_of groups.items)) }
-    ensures err { OnErr result (KeepsRecords records.old records.new
-        × SameSets (users_of records.old) (users_of records.new)) }
+    requires members { HasMemberRecords records.old (items_of groups.items) }
+    ensures ok { OnOk result (SetsSettled records.old records.new key.now (arc_value value)
+        (items_of groups.items) version) }
+    ensures users { OnOk result (Relinks records.old records.new key.now (items_of groups.items)) }
+    ensures err { OnErr result (KeepsRecordsAndUsers records.old records.new) }
     ensures keys { keys_of records.new ≡ keys_of records.old }
     ensures numbers { AreNumbers records.new (numbers_of records.new) }
     ensures asks { AsksNumbers records.new }

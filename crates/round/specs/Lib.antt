@@ -13,3 +13,7 @@ pub mod Frames
 pub mod NodeStates
 pub mod Playing
 pub mod Replays
+pub mod Counts
+pub mod TurnCalls
+pub mod RoundCalls
+pub mod PlayCalls

@@ -1,12 +1,14 @@
 //! One choice of a replayed round.
 ghost use Rattle.std.specs.Prelude.{◌≡◌, ◌≤◌, ◌+◌, ◌∷◌, ◌++◌, [], List, IfOk, IfErr, OnOk, IsErrOf, IsTrue, Option};
-ghost use Rattle.engine_semantics.specs.Choices.{Hand, Back, Drop};
+ghost use Rattle.engine_semantics.specs.Choices.{Back, Drop};
 ghost use Rattle.keys.specs.Jobs.{Outcome};
 ghost use Rattle.keys.specs.declared.key.Key.{Key};
 ghost use Rattle.node.specs.Graphs.{GraphView};
 ghost use Rattle.keys.specs.declared.value.Value.{Value};
 ghost use Rattle.keys.specs.Leaves as leaves;
-ghost use Rattle.round.specs.Playing.{IsPlaying, Plays, IsPossibleNow, StopsAfter, HasPlace, HandsMore, CountsIf};
+ghost use Rattle.round.specs.Playing.{IsPlaying, Plays, StopsAfter, HasPlace, HandsMore};
+ghost use Rattle.round.specs.PlayCalls.{PlaysHand, LacksTurnForHand, HandsIf, AddsIf, StopsForAll};
+ghost use Rattle.round.specs.Counts.{GrowsWithin};
 ghost use Rattle.round.specs.declared.stop.Stop.{Stop};
 
 use crate::rounds::Round;
@@ -48,20 +50,14 @@ pub fn play_hand<R: Rules>(
 ) -> Result<bool, Stop>
     requires { IsPlaying graph.now round.old turns.old.items }
     ensures playing { OnOk result (IsPlaying graph.now round.new turns.new.items) }
-    ensures plays { (read : Key → Option Value)
-        → IfOk result (Plays R.next read (Hand key.now) graph.now graph.now round.old round.new) }
-    ensures budget { (read : Key → Option Value) → IsErrOf result Stop.Budget → (left ≡ 0)
-        × IsPossibleNow R.next read (Hand key.now) graph.now round.old }
+    ensures plays { PlaysHand R.next key.now graph.now round.old round.new result }
+    ensures budget { LacksTurnForHand R.next key.now left graph.now round.old result }
     ensures unspent { IsErrOf result Stop.Budget → R.turns rules.new ≡ R.turns rules.old }
     ensures left { IfOk result (λ went. IsTrue went → 1 ≤ left) }
-    ensures hands { IfOk result
-        (λ went. IsTrue went → HandsMore 1 round.old round.new turns.old.items turns.new.items) }
-    ensures counted { IfOk result
-        (λ went. CountsIf went 1 (R.turns rules.old) (R.turns rules.new)) }
-    ensures at_most { (R.turns rules.old ≤ R.turns rules.new)
-        × (R.turns rules.new ≤ R.turns rules.old + left) }
-    ensures stopped { (read : Key → Option Value)
-        → IfErr result (λ e. StopsAfter R.next read graph.now graph.now round.old) }
+    ensures hands { IfOk result (HandsIf 1 round.old round.new turns.old.items turns.new.items) }
+    ensures counted { IfOk result (AddsIf 1 (R.turns rules.old) (R.turns rules.new)) }
+    ensures at_most { GrowsWithin left (R.turns rules.old) (R.turns rules.new) }
+    ensures stopped { StopsForAll R.next graph.now graph.now round.old result }
 {
     match round.hand_out(graph, key)? {
         None => Ok(false),

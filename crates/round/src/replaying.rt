@@ -1,10 +1,11 @@
 //! An evaluation by a list of choices.
-ghost use Rattle.std.specs.Prelude.{◌≡◌, ◌≤◌, ◌+◌, IfOk, IfErr, OnOk, IsErrOf, IsTrue, Err};
+ghost use Rattle.std.specs.Prelude.{◌≡◌, ◌+◌, IfOk, IfErr, OnOk, IsErrOf, Err};
 ghost use Rattle.keys.specs.Leaves as leaves;
-ghost use Rattle.round.specs.Playing.{IsPlaying, Plays, IsPossibleNow, StopsAfter, HandsMore, CountsIf};
-ghost use Rattle.round.specs.Replays.{Replays, SpendsBudget, KeepsBudget, choice_view, hand_of, turns_told};
+ghost use Rattle.round.specs.Playing.{IsPlaying, Plays};
+ghost use Rattle.round.specs.Replays.{Replays, SpendsBudget, KeepsBudget, choice_view, hand_of};
 ghost use Rattle.round.specs.declared.choice.Choice.{Choice};
-ghost use Rattle.round.specs.Call.{Calls};
+ghost use Rattle.round.specs.PlayCalls.{LacksTurnFor, IsUnspent, HandsBy, CountsChoice, StopsChoice, StopsCall};
+ghost use Rattle.round.specs.Counts.{GrowsWithin, CountsRead};
 ghost use Rattle.round.specs.declared.stop.Stop.{Stop};
 
 use crate::choice::{Choice, Replayed};
@@ -15,6 +16,13 @@ use filetree::Tree;
 use keys::{Key, Rules, Turned};
 use node::Graph;
 use std::alloc::Global;
+
+/// A round, and the turns that were made and did not come back.
+#[derive(Drop)]
+pub struct Play<R: Rules> {
+    round: Round<R>,
+    turns: Vec<Turned<R>>,
+}
 
 // Returns how many turns a choice hands out.
 fn hands_in(choice: &Choice) -> u64
@@ -29,32 +37,25 @@ fn hands_in(choice: &Choice) -> u64
 
 // Makes one choice. Returns whether it was possible.
 fn play_choice<R: Rules>(
-    round: &mut Round<R>,
-    turns: &mut Vec<Turned<R>>,
+    play: &mut Play<R>,
     graph: &mut Graph,
     tree: &Tree,
     rules: &mut R,
     left: u64,
     choice: &Choice,
 ) -> Result<bool, Stop>
-    requires { IsPlaying graph.old round.old turns.old.items }
-    ensures playing { OnOk result (IsPlaying graph.new round.new turns.new.items) }
+    requires { IsPlaying graph.old play.old.round play.old.turns.items }
+    ensures playing { OnOk result (IsPlaying graph.new play.new.round play.new.turns.items) }
     ensures plays { IfOk result (Plays R.next (leaves.read tree.now) (choice_view choice.now)
-        graph.old graph.new round.old round.new) }
-    ensures left { IfOk result (λ went. IsTrue went → hand_of choice.now ≤ left) }
-    ensures budget { IsErrOf result Stop.Budget → (left ≡ 0) × (hand_of choice.now ≡ 1)
-        × IsPossibleNow R.next (leaves.read tree.now) (choice_view choice.now) graph.old round.old }
-    ensures unspent { IsErrOf result Stop.Budget → (graph.new ≡ graph.old)
-        × (R.turns rules.new ≡ R.turns rules.old) }
-    ensures hands { IfOk result (λ went. IsTrue went → HandsMore (hand_of choice.now) round.old
-        round.new turns.old.items turns.new.items) }
-    ensures counted { IfOk result (λ went. CountsIf went (hand_of choice.now) (R.turns rules.old)
-        (R.turns rules.new)) }
-    ensures at_most { (R.turns rules.old ≤ R.turns rules.new)
-        × (R.turns rules.new ≤ R.turns rules.old + left) }
-    ensures stopped { IfErr result
-        (λ e. StopsAfter R.next (leaves.read tree.now) graph.old graph.new round.old) }
+        graph.old graph.new play.old.round play.new.round) }
+    ensures budget { LacksTurnFor R.next tree.now choice.now left graph.old play.old.round result }
+    ensures unspent { IsUnspent graph.old graph.new (R.turns rules.old) (R.turns rules.new) result }
+    ensures hands { HandsBy choice.now play.old play.new result }
+    ensures counted { CountsChoice choice.now left (R.turns rules.old) (R.turns rules.new) result }
+    ensures at_most { GrowsWithin left (R.turns rules.old) (R.turns rules.new) }
+    ensures stopped { StopsChoice R.next tree.now graph.old graph.new play.old.round result }
 {
+    let Play { round, turns } = play;
     match choice {
         Choice::Hand(key) => play_hand(round, turns, graph, rules, left, key),
         Choice::Back(key) => Ok(play_back(round, turns, graph, tree, key)?),
@@ -82,34 +83,32 @@ pub fn replay<R: Rules>(
 ) -> Result<Replayed, Stop>
     ensures replays { IfOk result (Replays R.next (leaves.read tree.now) roots.items graph.old
         graph.new choices.now) }
-    ensures turns { IfOk result (λ told. R.turns rules.new ≡ R.turns rules.old
-        + turns_told choices.now told) }
+    ensures turns { IfOk result (CountsRead choices.now (R.turns rules.old) (R.turns rules.new)) }
     ensures budget { IsErrOf result Stop.Budget → SpendsBudget R.next (leaves.read tree.now)
         roots.items graph.old graph.new choices.now budget }
     ensures unspent { IfOk result (λ told. KeepsBudget R.next (leaves.read tree.now) roots.items
         graph.old choices.now budget) }
     ensures spent { IsErrOf result Stop.Budget → R.turns rules.new ≡ R.turns rules.old + budget }
-    ensures at_most { (R.turns rules.old ≤ R.turns rules.new)
-        × (R.turns rules.new ≤ R.turns rules.old + budget) }
-    ensures stopped { IfErr result (λ e. Calls R.next (leaves.read tree.now) roots.items graph.old
-        graph.new (Err e)) }
+    ensures at_most { GrowsWithin budget (R.turns rules.old) (R.turns rules.new) }
+    ensures stopped { IfErr result (StopsCall R.next tree.now roots.items graph.old graph.new) }
 {
-    let mut round: Round<R> = Round::open(alloc, graph, tree, roots)?;
-    let mut turns = Vec::new(alloc);
+    let round: Round<R> = Round::open(alloc, graph, tree, roots)?;
+    let turns = Vec::new(alloc);
+    let mut play = Play { round, turns };
     let mut left = budget;
     for n in 0..choices.len() {
-        if round.stalled() {
-            return Ok(Replayed::Done(close_stall(round, graph)?));
+        if play.round.stalled() {
+            return Ok(Replayed::Done(close_stall(play.round, graph)?));
         }
         let choice = &choices[n];
-        match play_choice(&mut round, &mut turns, graph, tree, rules, left, choice) {
+        match play_choice(&mut play, graph, tree, rules, left, choice) {
             Ok(true) => left -= hands_in(choice),
             Ok(false) => return Ok(Replayed::NotLegal(n)),
             Err(stop) => return Err(stop),
         }
     }
-    if round.stalled() {
-        return Ok(Replayed::Done(close_stall(round, graph)?));
+    if play.round.stalled() {
+        return Ok(Replayed::Done(close_stall(play.round, graph)?));
     }
     Ok(Replayed::ChoicesEnded)
 }

@@ -1,5 +1,5 @@
 //! A round: one evaluation, turn by turn, and its caller on one thread, within a budget of turns.
-ghost use Rattle.std.specs.Prelude.{◌≡◌, ◌∷◌, List, length, Option, Some, None, Ok, Err, true, false, [], IfOk, IfErr, OnOk, OnErr, IfSome, IfNone, IsTrue, ◌+◌, ◌≤◌, ℕ, IsErrOf};
+ghost use Rattle.std.specs.Prelude.{◌≡◌, ◌∷◌, List, length, Option, Some, None, Ok, Err, true, false, [], IfOk, IfErr, OnOk, OnErr, IfSome, IfNone, IsTrue, ◌+◌, ℕ, IsErrOf};
 ghost use Rattle.std.specs.Bool.{Decides};
 ghost use Rattle.std.specs.List.{All};
 ghost use Rattle.std.specs.BTreeMap.Range.{IsLeBy};
@@ -7,7 +7,7 @@ ghost use Rattle.base_types.specs.declared.memory.Memory.{Memory};
 ghost use Rattle.node.specs.Graphs.{GraphView};
 ghost use Rattle.round.specs.NodeStates.{PutsState, HasState, DropsState};
 ghost use Rattle.engine_semantics.specs.Reply.{Reply};
-ghost use Rattle.engine_semantics.specs.Choices.{Choice, Hand, Back, Drop};
+ghost use Rattle.engine_semantics.specs.Choices.{Hand, Back, Drop};
 ghost use Rattle.engine_semantics.specs.Value.{In};
 ghost use Rattle.keys.specs.Leaves as leaves;
 ghost use Rattle.keys.specs.Jobs.{Made};
@@ -17,13 +17,15 @@ ghost use Rattle.keys.specs.declared.value.Value.{Value};
 ghost use Rattle.round_nodes.specs.TurnCounts.{HasMade, MakesNoTurn, turns_of};
 ghost use Rattle.round_nodes.specs.Nodes.{IsOpen};
 ghost use Rattle.round_nodes.specs.Invariants.{KeepsInvariantBy};
-ghost use Rattle.round.specs.Choosing.{IsPossibleAfter, ForChoices, HandsWherePossible, TakesJobOut, StrangerWhereNotOut, Follows, FollowsHand, FollowsBack, IsFollowing};
+ghost use Rattle.round.specs.Choosing.{ForChoices, Follows, IsFollowing};
 ghost use Rattle.round.specs.Since.{HoldsSince, IsAfterSince};
-ghost use Rattle.round.specs.Moves.{StaysTrueBy, Ends, IsOpenOrSettled};
-ghost use Rattle.round.specs.Rounds.{round_view, AgreesWith, IsStalled, CanDrop, HandsOut, IsAsBefore, IsOfJobOut, NoneOpen, EndsWith, Refuses, TakesBack, KeepsJobs, KeepsAllJobs};
+ghost use Rattle.round.specs.Moves.{Ends};
+ghost use Rattle.round.specs.Rounds.{round_view, AgreesWith, IsStalled, CanDrop, IsAsBefore, IsOfJobOut, NoneOpen, EndsWith, Refuses, TakesBack, KeepsAllJobs};
 ghost use Rattle.round.specs.Turning.{IsOutAt};
 ghost use Rattle.round.specs.Call.{Calls, HasOpenRoot, HasTurnToMake};
 ghost use Rattle.round.specs.Here.{TurnsOnce, Finishes};
+ghost use Rattle.round.specs.RoundCalls.{HandsTruly, DropsTruly, HandsOutJob, FollowsJob, HandsIfPossible, TakesTurnBack, KeepsJobsBut, IsOutIfTaken, IsNotOutIfStranger, FollowsIfTaken, DropsIfPossible, FollowsDrop, HasRootsOpenOrSettled};
+ghost use Rattle.round.specs.Counts.{GrowsWithin, CountsRuns};
 ghost use Rattle.round.specs.declared.stop.Stop.{Stop};
 
 use crate::close::close_cycles;
@@ -163,16 +165,10 @@ impl<R: Rules> Round<R> {
     pub fn hand_out(&mut self, graph: &Graph, key: &Key) -> Result<Option<Job<R>>, Memory>
         requires { AgreesWith graph.now self.old }
         ensures beside { AgreesWith graph.now self.new }
-        ensures hands { IfOk result (HandsOut graph.now key.now (round_view self.old)
-            (round_view self.new)) }
-        ensures truth { (read : Key → Option Value)
-            → IfOk result
-            (λ job. IfSome job (λ j. StaysTrueBy (Hand key.now ∷ []) read graph.now graph.now
-            self.old.table self.new.table)) }
-        ensures follows { IfOk result (FollowsHand key.now (round_view self.old) self.old.kept
-            (round_view self.new) self.new.kept) }
-        ensures possible { (read : Key → Option Value)
-            → IfOk result (HandsWherePossible read graph.now (round_view self.old) key.now) }
+        ensures hands { IfOk result (HandsOutJob graph.now key.now self.old self.new) }
+        ensures truth { HandsTruly graph.now key.now self.old.table self.new.table result }
+        ensures follows { IfOk result (FollowsJob key.now self.old self.new) }
+        ensures possible { HandsIfPossible graph.now key.now self.old result }
         ensures refused { OnErr result (IsAsBefore self.old self.new) }
         ensures others { OnOk result
             (KeepsAllJobs graph.now (round_view self.old) (round_view self.new)) }
@@ -206,19 +202,13 @@ impl<R: Rules> Round<R> {
     ) -> Result<(), TakeBackError<R>>
         requires { AgreesWith graph.old self.old }
         ensures beside { OnOk result (AgreesWith graph.new self.new) }
-        ensures back { OnOk result (IsOfJobOut graph.old (round_view self.old) turned.asked
-            × TakesBack (round_view self.old) (round_view self.new) turned.asked.key
-            × (turned.ending ≡ Made)) }
+        ensures back { OnOk result (TakesTurnBack graph.old self.old self.new turned) }
         ensures truth { KeepsInvariantBy (Back turned.asked.key ∷ []) R.next (leaves.read tree.now)
             graph.old graph.new self.old.table self.new.table result }
-        ensures others { OnOk result (KeepsJobs turned.asked.key graph.old graph.new
-            (round_view self.old) (round_view self.new)) }
-        ensures possible { (read : Key → Option Value)
-            → OnOk result (TakesJobOut read graph.old (round_view self.old) turned.asked) }
-        ensures strange { (read : Key → Option Value)
-            → IfErr result (StrangerWhereNotOut read graph.old (round_view self.old) turned.asked) }
-        ensures follows { (read : Key → Option Value)
-            → OnOk result (FollowsBack read graph.old turned.asked.key self.old self.new) }
+        ensures others { OnOk result (KeepsJobsBut turned graph.old graph.new self.old self.new) }
+        ensures possible { IsOutIfTaken graph.old self.old turned result }
+        ensures strange { IsNotOutIfStranger graph.old self.old turned result }
+        ensures follows { FollowsIfTaken graph.old turned self.old self.new result }
         ensures refused { IfErr result (Refuses graph.old graph.new self.old self.new turned) }
     {
         if !is_out_with(self.alloc, graph, &self.table, &turned)? {
@@ -243,10 +233,8 @@ impl<R: Rules> Round<R> {
         ensures back { OnOk result
             (TakesBack (round_view self.old) (round_view self.new) turned.asked.key) }
         ensures made { OnOk result (turned.ending ≡ Made) }
-        ensures follows { (read : Key → Option Value)
-            → OnOk result (FollowsBack read graph.old turned.asked.key self.old self.new) }
-        ensures others { OnOk result (KeepsJobs turned.asked.key graph.old graph.new
-            (round_view self.old) (round_view self.new)) }
+        ensures follows { FollowsIfTaken graph.old turned self.old self.new result }
+        ensures others { OnOk result (KeepsJobsBut turned graph.old graph.new self.old self.new) }
         ensures truth { KeepsInvariantBy (Back turned.asked.key ∷ []) R.next (leaves.read tree.now)
             graph.old graph.new self.old.table self.new.table result }
     {
@@ -265,15 +253,9 @@ impl<R: Rules> Round<R> {
         ensures not_out { (graph : GraphView) → AgreesWith graph self.old → IsTrue result
             → IsOutAt self.old.table key.now → ⊥ }
         ensures kept { DropsState self.old.kept self.new.kept key.now result }
-        ensures possible { (read : Key → Option Value) (graph : GraphView)
-            → AgreesWith graph self.old → ForChoices read graph (round_view self.old)
-            (λ next past cs. Follows cs (round_view self.old) self.old.kept
-            → Decides result (IsPossibleAfter next read past cs (Drop key.now))) }
-        ensures follows { IsTrue result → (cs : List (Choice Key)) → Follows cs (round_view
-            self.old) self.old.kept → Follows (Drop key.now ∷ cs) (round_view self.new)
-            self.new.kept }
-        ensures truth { (read : Key → Option Value) (graph : GraphView)
-            → StaysTrueBy (Drop key.now ∷ []) read graph graph self.old.table self.new.table }
+        ensures possible { DropsIfPossible key.now self.old result }
+        ensures follows { IsTrue result → FollowsDrop key.now self.old self.new }
+        ensures truth { DropsTruly key.now self.old.table self.new.table }
         ensures same { round_view self.new ≡ round_view self.old }
         ensures beside { (graph : GraphView) → AgreesWith graph self.old
             → AgreesWith graph self.new }
@@ -297,8 +279,7 @@ impl<R: Rules> Round<R> {
         requires beside { AgreesWith graph.old self.old }
         requires stalled { IsStalled (round_view self.old) }
         ensures none { OnOk result (NoneOpen (round_view self.new)) }
-        ensures wanted { OnOk result ((k : Key) → In k (round_view self.new).roots
-            → IsOpenOrSettled graph.new self.new.table k) }
+        ensures wanted { OnOk result (HasRootsOpenOrSettled graph.new self.new) }
         ensures same { ((round_view self.new).roots ≡ (round_view self.old).roots)
             × ((round_view self.new).out ≡ (round_view self.old).out) }
         ensures turns { OnOk result (MakesNoTurn self.old.table self.new.table) }
@@ -385,8 +366,7 @@ pub fn make_turn<R: Rules>(
     requires ready { In key.now (round_view round.old).table.ready.keys }
     ensures turns { OnOk result (TurnsOnce graph.old graph.new round.old round.new) }
     ensures counted { OnOk result (R.turns rules.new ≡ R.turns rules.old + 1) }
-    ensures at_most { (R.turns rules.old ≤ R.turns rules.new)
-        × (R.turns rules.new ≤ R.turns rules.old + 1) }
+    ensures at_most { GrowsWithin 1 (R.turns rules.old) (R.turns rules.new) }
     ensures truth { KeepsInvariantBy (Back key.now ∷ Hand key.now ∷ []) R.next (leaves.read
         tree.now) graph.old graph.new round.old.table round.new.table result }
 {
@@ -444,14 +424,12 @@ pub fn evaluate_here<R: Rules>(
         graph.new (Ok runs.items)) }
     ensures stopped { IfErr result (λ e. Calls R.next (leaves.read tree.now) roots.now graph.old
         graph.new (Err e)) }
-    ensures turns { IfOk result (λ runs. R.turns rules.new ≡ R.turns rules.old
-        + turns_of runs.items) }
+    ensures turns { IfOk result (CountsRuns (R.turns rules.old) (R.turns rules.new)) }
     ensures budget { IsErrOf result Stop.Budget → (R.turns rules.new ≡ R.turns rules.old + budget)
         × HasOpenRoot R.next (leaves.read tree.now) roots.now graph.old graph.new }
     ensures spent { IsErrOf result Stop.Budget → HasTurnToMake R.next (leaves.read tree.now)
         roots.now graph.old graph.new }
-    ensures at_most { (R.turns rules.old ≤ R.turns rules.new)
-        × (R.turns rules.new ≤ R.turns rules.old + budget) }
+    ensures at_most { GrowsWithin budget (R.turns rules.old) (R.turns rules.new) }
 {
     let roots = share_all(alloc, roots)?;
     let mut round: Round<R> = Round::open(alloc, graph, tree, roots)?;

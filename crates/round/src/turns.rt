@@ -1,10 +1,10 @@
 //! Turns that are handed out and taken back.
-ghost use Rattle.std.specs.Prelude.{◌≡◌, ◌++◌, ◌∷◌, [], List, IfOk, IfSome, IfNone, OnOk, OnErr, Option, Some, None, IsTrue};
+ghost use Rattle.std.specs.Prelude.{◌≡◌, ◌++◌, ◌∷◌, [], List, IfOk, OnOk, OnErr, Option, Some, None, IsTrue};
 ghost use Rattle.indexmap.specs.IndexMap.{get, Updates};
 ghost use Rattle.std.specs.Option.{option_map};
 ghost use Rattle.node.specs.Graphs.{record_at};
 ghost use Rattle.round_nodes.specs.Members.{Answers};
-ghost use Rattle.round.specs.NodeStates.{IsPaused, ArePaused, NeedsValues, SameStates, TakesOut, kept_answers};
+ghost use Rattle.round.specs.NodeStates.{ArePaused, NeedsValues, SameStates, TakesOut, kept_answers};
 ghost use Rattle.std.specs.Bool.{Decides};
 ghost use Rattle.keys.specs.Turns.{values};
 ghost use Rattle.keys.specs.Keys.{key_eq};
@@ -13,14 +13,12 @@ ghost use Rattle.keys.specs.declared.key.Key.{Key};
 ghost use Rattle.keys.specs.declared.value.Value.{Value};
 ghost use Rattle.keys.specs.Jobs.{Made, Waits};
 ghost use Rattle.node.specs.Records.{items_of};
-ghost use Rattle.round_nodes.specs.Nodes.{node_at, groups_of, IsClean};
-ghost use Rattle.round_nodes.specs.Invariants.{KeepsInvariantBy};
-ghost use Rattle.engine_semantics.specs.Choices.{Back};
+ghost use Rattle.round_nodes.specs.Nodes.{node_at, groups_of};
 ghost use Rattle.round_nodes.specs.declared.table.Node.{Node};
 ghost use Rattle.round_nodes.specs.declared.table.Phase.TheVariants as phase;
-ghost use Rattle.round.specs.Frames.{KeepsOthersBut};
 ghost use Rattle.round.specs.Moves.{KeepsOpened, IsInOrder};
 ghost use Rattle.round.specs.Turning.{IsOutWith, ComesBack};
+ghost use Rattle.round.specs.TurnCalls.{ComesBackTruly, KeepsOthersOf, IsPausedIfSome, IsCleanIfNone};
 
 use crate::visiting::finish_node;
 use base_types::Memory;
@@ -177,15 +175,11 @@ pub fn accept_turn<R: Rules>(
     ensures whole { OnOk result (IsInOrder graph.new table.new) }
     ensures back { OnOk result (ComesBack table.old table.new turned.asked.key) }
     ensures keeps { OnOk result (KeepsOpened graph.old graph.new table.old table.new) }
-    ensures frame { OnOk result (KeepsOthersBut turned.asked.key graph.old graph.new table.old
-        table.new) }
-    ensures truth { (read : Key → Option Value) → KeepsInvariantBy (Back turned.asked.key ∷ [])
-        R.next read graph.old graph.new table.old table.new result }
+    ensures frame { OnOk result (KeepsOthersOf turned graph.old graph.new table.old table.new) }
+    ensures truth { ComesBackTruly R.next turned graph.old graph.new table.old table.new result }
     ensures made { OnOk result (turned.ending ≡ Made) }
-    ensures paused { IfOk result
-        (λ paused. IfSome paused (λ w. IsPaused graph.new table.new turned.asked.key w)) }
-    ensures ended { IfOk result
-        (λ paused. IfNone paused (IsClean (record_at graph.new) turned.asked.key)) }
+    ensures paused { IfOk result (IsPausedIfSome graph.new table.new turned.asked.key) }
+    ensures ended { IfOk result (IsCleanIfNone graph.new turned.asked.key) }
 {
     match turned.into_end()? {
         TurnEnd::Done(key, value) => {

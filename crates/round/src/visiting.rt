@@ -1,9 +1,7 @@
 //! Opening nodes, visiting those that wait, and settling them.
-ghost use Rattle.std.specs.Prelude.{◌≡◌, ◌+◌, ◌<◌, ◌^◌, [], ℕ, true, false, IfOk, OnOk, Some, IfSome, IfNone, IsTrue, Option, ◌∷◌, None, List};
+ghost use Rattle.std.specs.Prelude.{◌≡◌, ◌+◌, ◌<◌, [], ℕ, true, false, IfOk, OnOk, Some, IfSome, IfNone, IsTrue, Option, ◌∷◌, None, List};
 ghost use Rattle.std.specs.Option.{is_some};
 ghost use Rattle.engine_semantics.specs.Value.{In};
-ghost use Rattle.engine_semantics.specs.Reply.{Reply, Done};
-ghost use Rattle.engine_semantics.specs.Choices.{Back};
 ghost use Rattle.filetree.specs.Files.{Files};
 ghost use Rattle.round_nodes.specs.Nodes.{IsClean, node_at, groups_of, pending, IsUnsettled};
 ghost use Rattle.keys.specs.Leaves as leaves;
@@ -13,11 +11,11 @@ ghost use Rattle.node.specs.Graphs.{record_at};
 ghost use Rattle.round_nodes.specs.TurnCounts.{MakesNoTurn};
 ghost use Rattle.round_nodes.specs.declared.table.Node.{Node};
 ghost use Rattle.round_nodes.specs.declared.table.Phase.TheVariants as phase;
-ghost use Rattle.round_nodes.specs.Invariants.{KeepsInvariantBy};
 ghost use Rattle.round.specs.Frames.{KeepsOthers, KeepsOthersBut};
 ghost use Rattle.round.specs.Looks.{IsAwaiting, IsChecking, IsLastGroup, IsRunning, IsNextKey, HasPassed};
 ghost use Rattle.round.specs.Moves.{KeepsInvariant, IsInOrderBut, IsInOrder, KeepsOut, KeepsOpened, KeepsInvariantOf, Wants, IsOpenOrSettled};
 ghost use Rattle.round.specs.Turning.{IsOutWith, ComesBack};
+ghost use Rattle.round.specs.TurnCalls.{LooksOnce, EndsTruly};
 
 use base_types::Memory;
 use filetree::Tree;
@@ -173,10 +171,7 @@ pub fn finish_node(
     ensures settled { OnOk result (IsClean (record_at graph.new) key) }
     ensures keeps { OnOk result (KeepsOpened graph.old graph.new table.old table.new) }
     ensures frame { OnOk result (KeepsOthersBut key graph.old graph.new table.old table.new) }
-    ensures truth { (read : Key → Option Value) (next : Key → List Value → Reply Key Value)
-        (answers : List Value) → IsOutWith graph.old table.old key answers → next key answers
-        ≡ Done value → KeepsInvariantBy (Back key ∷ []) next read graph.old graph.new table.old
-        table.new result }
+    ensures truth { EndsTruly key value graph.old graph.new table.old table.new result }
 {
     let shared = Arc::new(alloc, value)?;
     let groups = close_node(alloc, table, &key)?;
@@ -379,8 +374,7 @@ fn visit_next(
     requires whole { IsInOrder graph.old table.old }
     ensures whole { OnOk result (IsInOrder graph.new table.new) }
     ensures none { IfOk result (λ more. more ≡ false → pending table.new ≡ []) }
-    ensures forward { IfOk result (λ more. more ≡ true → (table.new.visited ≡ table.old.visited + 1)
-        × (table.old.visited < 2 ^ 64)) }
+    ensures forward { IfOk result (λ more. more ≡ true → LooksOnce table.old table.new) }
     ensures out { OnOk result (KeepsOut table.old table.new) }
     ensures keeps { OnOk result (KeepsOpened graph.old graph.new table.old table.new) }
     ensures turns { OnOk result (MakesNoTurn table.old table.new) }

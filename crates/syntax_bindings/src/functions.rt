@@ -6,6 +6,7 @@ ghost use Rattle.syntax_bindings.specs.Functions.{function};
 ghost use Rattle.syntax_bindings.specs.declared.finding.TheConstants.{MAX_LINEAR};
 
 use crate::names::{are_known_to_differ, function_names};
+use crate::parameters::{index_of, required};
 use base_types::{Memory, Text};
 use std::alloc::Global;
 use std::sync::Arc;
@@ -31,6 +32,8 @@ pub fn new_function(
 {
     let names = function_names(alloc, params.as_slice(), body.as_slice())?;
     let once = are_known_to_differ(names.as_slice());
+    let index = index_of(alloc, names.as_slice())?;
+    let required = required(params.as_slice());
     let body = Arc::new(alloc, body)?;
     Ok(Def {
         line,
@@ -39,5 +42,7 @@ pub fn new_function(
         body,
         names,
         once,
+        index,
+        required,
     })
 }

@@ -6,6 +6,7 @@ mod finding;
 mod functions;
 mod gathering;
 mod names;
+mod parameters;
 
 pub use functions::new_function;
 pub use names::{clause_names, file_names, top_names};

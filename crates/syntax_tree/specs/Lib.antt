@@ -3,3 +3,4 @@ pub mod View
 pub mod Statements
 pub mod Suites
 pub mod Bindings
+pub mod Requirements

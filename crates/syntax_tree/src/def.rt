@@ -1,12 +1,15 @@
 //! Functions, loads and files.
 ghost use Rattle.std.specs.Prelude.{◌≡◌, true, cond, map};
+ghost use Rattle.std.specs.Option.{ForSome};
 ghost use Rattle.std.specs.Arc.{arc_value};
 ghost use Rattle.syntax_tree.specs.Suites.{stmts_of, param_of};
 ghost use Rattle.syntax_tree.specs.Bindings.{function_names, differ};
+ghost use Rattle.syntax_tree.specs.Requirements.{AreRequired};
 
 use crate::expr::Expr;
 use crate::stmt::Stmt;
 use base_types::Text;
+use indexmap::IndexSet;
 use std::alloc::Global;
 use std::sync::Arc;
 
@@ -36,8 +39,14 @@ pub struct Def {
     pub names: Vec<Text>,
     /// Whether these names are known to differ. More than a few names are not compared.
     pub once: bool,
+    /// The set of these names, if they are many and differ.
+    pub index: Option<IndexSet<Text>>,
+    /// How many parameters have no default, if all of them come before those that have one.
+    pub required: Option<usize>,
     pub ghost bound: { names.items ≡ function_names (map param_of params.items) (stmts_of (arc_value body).items) },
     pub ghost distinct: { cond once (differ names.items) true ≡ true },
+    pub ghost listed: { ForSome index (λ s. s.keys ≡ names.items) },
+    pub ghost needed: { ForSome required (λ n. AreRequired n (map param_of params.items)) },
 }
 
 impl Drop for Def {
@@ -49,6 +58,8 @@ impl Drop for Def {
             body: _,
             names: _,
             once: _,
+            index: _,
+            required: _,
         } = self;
     }
 }

@@ -2,7 +2,6 @@ use Rattle.std.proofs.Common.{Option, Err, sym, ap, subst, ◌∙◌}
 use Rattle.std.specs.Arc.{arc_value}
 use Rattle.values_semantics.specs.declared.val.Val.{Val}
 use Rattle.values_semantics.specs.Heap.{Obj}
-use Rattle.syntax_tree.specs.declared.def.Def.{Def}
 use Rattle.syntax_tree.specs.Statements.{fn_of}
 use Rattle.evaluator_semantics.specs.World.{Ends, then_runs, pure}
 use Rattle.evaluator_semantics.specs.Arguments.{plain_part, named_part}
@@ -14,7 +13,7 @@ use Rattle.evaluator_frames.specs.declared.frame.Control.{Control}
 use Rattle.evaluator_frames.specs.Frames.{a_value, Goes, on, stack_does}
 use Rattle.evaluator.specs.declared.machine.Environment.{Environment}
 use Rattle.evaluator.specs.Machines.{env_of, here_in, means}
-use Rattle.evaluator.specs.Finding.{IsFound, calls_on}
+use Rattle.evaluator.specs.Finding.{IsFound}
 use Rattle.evaluator.specs.declared.finding.Callee.{Callee}
 use Rattle.evaluator.proofs.Calls.{no_call, needs_goes, found_calls}
 use Rattle.evaluator.proofs.entering.enter.Goals as goal
@@ -81,6 +80,6 @@ returns-in-Some-clause-goes c = λ more knows.
     let found = c.in-Some.found in
     let is = subst (λ (o : Option Callee). IsFound e label name o) c.in-Some.is c.in_ok-found.ensures.ok in
     let f = fn_of (arc_value found.def) in
-    let chain = object ∙ found_calls env left label name xs ns h f w u needs is.0 is.1 ∙ ap (λ (d : Def). calls_on env left label (fn_of d) xs ns h u) (sym c.deref.ensures) in
+    let chain = object ∙ found_calls env left label name xs ns h f w u needs is.0 is.1 in
     let after = λ (control : Control). means env c.call.new.m control in
     subst (λ (o : Ends Val). Goes h.site (then_runs (then_runs o k) j) c.call.result after) (sym chain) (c.call.ensures.goes env c.args.line is.2)

@@ -1,4 +1,5 @@
-use Rattle.std.proofs.Common.{◌≡◌, ◌∷◌, List, get_or, map, ap, subst, ◌∙◌}
+use Rattle.std.proofs.Common.{rules, ◌≡◌, ◌∷◌, List, get_or, ap, subst, ◌∙◌}
+use Rattle.std.specs.Arc.{arc_value}
 use Rattle.evaluator_semantics.specs.World.{Names, ended}
 use Rattle.evaluator_state.specs.declared.state.FileNames.{FileNames}
 use Rattle.evaluator_state.specs.View.{world_of, names_of}
@@ -26,5 +27,6 @@ returns-clause-says c = λ here.
     let first : FirstSo (is_file label) files i = subst (λ (l : List FileNames). FirstSo (is_file label) l i) c.as_slice.ensures.value c.in-Some.ensures in
     let change = λ (g : Names). record g { defaults = (c.args.name.now, c.args.values.items) ∷ g.defaults } in
     let kept = c.in_ok-add.ensures.added in
+    let shared : (arc_value c.in_ok-values.values).items ≡ c.args.values.items = search rules in
     ap (λ (fs : List Names). ended tt (record w { files = fs })) (change_there label change files i f (record f { defaults = c.add.new.self }) first.within first.before (first.here f)
-    (ap (λ l. record (names_of f) { defaults = l }) kept ∙ ap (λ y. record (names_of f) { defaults = (y, c.args.values.items) ∷ f.defaults }) c.in_ok-function.ensures ∙ ap (λ (g : FileNames). change (names_of g)) at_place))
+    (ap (λ l. record (names_of f) { defaults = l }) kept ∙ ap (λ l. record (names_of f) { defaults = (c.in_ok-function.function, l) ∷ f.defaults }) shared ∙ ap (λ y. record (names_of f) { defaults = (y, c.args.values.items) ∷ f.defaults }) c.in_ok-function.ensures ∙ ap (λ (g : FileNames). change (names_of g)) at_place))

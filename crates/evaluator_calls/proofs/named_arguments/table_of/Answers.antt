@@ -1,10 +1,10 @@
-use Rattle.std.proofs.Common.{◌≡◌, ◌-◌, [], ap, get_or, sym, ◌∙◌, cond, is_some, drop, Some, arith, List}
+use Rattle.std.proofs.Common.{◌≡◌, ◌-◌, [], ap, get_or, sym, ◌∙◌, cond, is_some, drop, Some, arith}
 use Rattle.std.specs.Prelude.{zip}
 use Rattle.std.specs.HashMap.{get}
 use Rattle.std.specs.Map.{lookup}
 use Rattle.values_semantics.specs.declared.val.Val.TheVariants as v
 use Rattle.values_semantics.specs.Comparing.{same_text}
-use Rattle.values_semantics.specs.Functions.{KeywordArguments, is_twice}
+use Rattle.values_semantics.specs.Functions.{is_twice}
 use Rattle.evaluator_semantics.specs.Arguments.{value_named}
 use Rattle.evaluator_calls.proofs.NamedTables.{none_behind, item_again, again, still_once, finds_more}
 use Rattle.evaluator_calls.proofs.named_arguments.table_of.Goals as goal

@@ -3,4 +3,4 @@ use Rattle.evaluator_state.specs.Places.{NoneSo, has_slot}
 use Rattle.evaluator_state.proofs.blocks.bind_first.Given as goal
 
 abbrev pub invariant-loop-i : goal.invariant-loop-i
-invariant-loop-i l = (l.blocks ≡ l.initial.blocks) × NoneSo (has_slot l.x) (take l.i l.blocks.items)
+invariant-loop-i l = (l.blocks.items ≡ l.initial.blocks.items) × NoneSo (has_slot l.x) (take l.i l.blocks.items)

@@ -13,8 +13,8 @@ returns-in_default c = λ line running u is.
     let none : NoneSo (is_file label) files = subst (λ (l : List FileNames). NoneSo (is_file label) l) c.as_slice.ensures.value c.in_default.ensures in
     global_absent label c.args.x.now c.args.value files u (here_of c.args.at.now line running) is none
 
-pub returns-in-Some-None : goal.returns-in-Some-None
-returns-in-Some-None c = λ line running u is.
+pub returns-in_ok-bind_in-in-Some-None : goal.returns-in_ok-bind_in-in-Some-None
+returns-in_ok-bind_in-in-Some-None c = λ line running u is.
     let files = c.args.files.now.items in
     let label = c.args.at.now.label in
     let x = c.args.x.now in
@@ -24,7 +24,7 @@ returns-in-Some-None c = λ line running u is.
     let first : FirstSo (is_file label) files i = subst (λ (l : List FileNames). FirstSo (is_file label) l i) c.as_slice.ensures.value c.in-Some.ensures in
     let free = ap (λ (g : FileNames). slot_in x (block_view g.block)) (sym here) ∙ sym c.slot_in.ensures ∙ c.in-Some-None.is ∙ ap (λ o. Some o) c.in-Some-None.field-0-is in
     global_bound label x c.args.value files u (here_of c.args.at.now line running) i f (record f { block = c.bind_in.new.block }) refl is first.within first.before (first.here f) free
-    (ap (λ b. record (names_of f) { block = b }) c.bind_in.ensures ∙ ap (λ (g : FileNames). record (names_of g) { block = bind_in x c.args.value (block_view g.block) }) here)
+    (ap (λ b. record (names_of f) { block = b }) c.in_ok-bind_in-in-Some-None.ensures ∙ ap (λ (g : FileNames). record (names_of g) { block = bind_in x c.args.value (block_view g.block) }) here)
 
 pub returns-in-Some-Some : goal.returns-in-Some-Some
 returns-in-Some-Some c = λ line running u is.

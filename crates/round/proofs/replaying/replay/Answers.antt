@@ -45,12 +45,12 @@ returns-then-stalled-clause-replays g c = λ past h.
     let i = c.loop-n.invariant in
     let w = i.came laws past h in
     let stall = c.stalled.ensures.0 c.if-stalled.true in
-    let back = all_back c.loop-n.round c.loop-n.turns.items _ (no_turns c.loop-n.graph c.loop-n.round c.loop-n.turns.items i.playing stall.1) i.handed in (
+    let back = all_back c.loop-n.play.round c.loop-n.play.turns.items _ (no_turns c.loop-n.graph c.loop-n.play.round c.loop-n.play.turns.items i.playing stall.1) i.handed in (
       c.in_ok-close_stall.ensures.law (leaves.read c.args.tree.now) g.R.Rules.next laws past _ w.0.roots w.0.truth,
       record {
         number = c.loop-n.n;
         legal = w.1;
-        at_stall = stalled_is g.R.Rules.next (leaves.read c.args.tree.now) laws past _ c.loop-n.graph (round_view c.loop-n.round) i.playing.0.0 w.0.roots w.0.truth stall;
+        at_stall = stalled_is g.R.Rules.next (leaves.read c.args.tree.now) laws past _ c.loop-n.graph (round_view c.loop-n.play.round) i.playing.0.0 w.0.roots w.0.truth stall;
         turns = sym (c.in_ok-close_stall.ensures.made (hands (take c.loop-n.n c.args.choices.now)) back);
         not_sooner = i.not_sooner laws past h;
       },
@@ -60,7 +60,7 @@ pub returns-then-stalled-clause-turns : goal.returns-then-stalled-clause-turns
 returns-then-stalled-clause-turns g c =
     let i = c.loop-n.invariant in
     let stall = c.stalled.ensures.0 c.if-stalled.true in
-    let back = all_back c.loop-n.round c.loop-n.turns.items _ (no_turns c.loop-n.graph c.loop-n.round c.loop-n.turns.items i.playing stall.1) i.handed in
+    let back = all_back c.loop-n.play.round c.loop-n.play.turns.items _ (no_turns c.loop-n.graph c.loop-n.play.round c.loop-n.play.turns.items i.playing stall.1) i.handed in
     i.counted ∙ ap (λ n. g.R.Rules.turns c.args.rules.now + n) (c.in_ok-close_stall.ensures.made (hands (take c.loop-n.n c.args.choices.now)) back)
 
 pub returns-in-Err-clause-stopped : goal.returns-in-Err-clause-stopped
@@ -75,8 +75,8 @@ returns-in-Err-clause-budget g c = λ e past h.
     let b = c.in-Err.ensures.budget (err_of c.in-Err.stop Stop.Budget e) in
     let spent = c.loop-n.invariant.spent in
     let u = c.in-Err.ensures.unspent (err_of c.in-Err.stop Stop.Budget e) in
-    let k = one_open c.loop-n.graph c.loop-n.round c.loop-n.turns.items c.loop-n.invariant.playing (λ s. true_false (c.stalled.ensures.1 s) c.if-stalled.false) in
-    let r = root_open g.R.Rules.next (leaves.read c.args.tree.now) laws past _ c.loop-n.graph c.loop-n.round.table c.loop-n.invariant.playing.0.0.whole w.0.truth k.0 k.1 in (
+    let k = one_open c.loop-n.graph c.loop-n.play.round c.loop-n.play.turns.items c.loop-n.invariant.playing (λ s. true_false (c.stalled.ensures.1 s) c.if-stalled.false) in
+    let r = root_open g.R.Rules.next (leaves.read c.args.tree.now) laws past _ c.loop-n.graph c.loop-n.play.round.table c.loop-n.invariant.playing.0.0.whole w.0.truth k.0 k.1 in (
       (r.0, subst (In r.0) h.of_roots r.1, subst (λ (x : GraphView). IsUnsettled (record_at x) r.0) (sym u.0) r.2),
       c.loop-n.n,
       c.index-choices-n.result,
@@ -95,7 +95,7 @@ returns-then-stalled-clause-unspent g c = λ past h.
     let i = c.loop-n.invariant in
     let w = i.came laws past h in
     stalled_in_time g.R.Rules.next (leaves.read c.args.tree.now) past c.args.choices.now c.args.budget c.loop-n.n
-    (stalled_is g.R.Rules.next (leaves.read c.args.tree.now) laws past _ c.loop-n.graph (round_view c.loop-n.round) i.playing.0.0 w.0.roots w.0.truth (c.stalled.ensures.0 c.if-stalled.true))
+    (stalled_is g.R.Rules.next (leaves.read c.args.tree.now) laws past _ c.loop-n.graph (round_view c.loop-n.play.round) i.playing.0.0 w.0.roots w.0.truth (c.stalled.ensures.0 c.if-stalled.true))
     (within_left c.loop-n.left (hands (take c.loop-n.n c.args.choices.now)) c.args.budget i.spent)
 
 pub returns-in-Ok-false-clause-unspent : goal.returns-in-Ok-false-clause-unspent
@@ -116,7 +116,7 @@ returns-in-Err-clause-spent g c = λ e.
 
 pub returns-in-Ok-false-clause-turns : goal.returns-in-Ok-false-clause-turns
 returns-in-Ok-false-clause-turns g c =
-    counted_still c.in-Ok-false.field-0 (hand_of c.index-choices-n.result) (g.R.Rules.turns c.loop-n.rules) (g.R.Rules.turns c.play_choice.new.rules) (hands (take c.loop-n.n c.args.choices.now)) (g.R.Rules.turns c.args.rules.now) c.in-Ok-false.field-0-test c.in-Ok-false.ensures.counted c.loop-n.invariant.counted
+    counted_still c.in-Ok-false.field-0 (hand_of c.index-choices-n.result) (g.R.Rules.turns c.loop-n.rules) (g.R.Rules.turns c.play_choice.new.rules) (hands (take c.loop-n.n c.args.choices.now)) (g.R.Rules.turns c.args.rules.now) c.in-Ok-false.field-0-test c.in-Ok-false.ensures.counted.1 c.loop-n.invariant.counted
 
 pub returns-in-Ok-false-clause-replays : goal.returns-in-Ok-false-clause-replays
 returns-in-Ok-false-clause-replays g c = λ past h.
@@ -124,8 +124,8 @@ returns-in-Ok-false-clause-replays g c = λ past h.
     let w = c.loop-n.invariant.came laws past h in
     let plays = rw c.in-Ok-false.field-0-test at c.in-Ok-false.ensures.plays in
     let p = plays laws past _ w.0 in
-    let k = one_open c.loop-n.graph c.loop-n.round c.loop-n.turns.items c.loop-n.invariant.playing (λ s. true_false (c.stalled.ensures.1 s) c.if-stalled.false) in
-    let r = root_open g.R.Rules.next (leaves.read c.args.tree.now) laws past _ c.loop-n.graph c.loop-n.round.table c.loop-n.invariant.playing.0.0.whole w.0.truth k.0 k.1 in (
+    let k = one_open c.loop-n.graph c.loop-n.play.round c.loop-n.play.turns.items c.loop-n.invariant.playing (λ s. true_false (c.stalled.ensures.1 s) c.if-stalled.false) in
+    let r = root_open g.R.Rules.next (leaves.read c.args.tree.now) laws past _ c.loop-n.graph c.loop-n.play.round.table c.loop-n.invariant.playing.0.0.whole w.0.truth k.0 k.1 in (
       p.1.truth.after,
       (r.0, subst (In r.0) h.of_roots r.1, subst (λ (x : GraphView). IsUnsettled (record_at x) r.0) (sym p.2) r.2),
       w.1,
@@ -135,7 +135,7 @@ returns-in-Ok-false-clause-replays g c = λ past h.
     )
 
 pub overflow_sub-left : goal.overflow_sub-left
-overflow_sub-left g c = let a = c.in-Ok-true.ensures.left c.in-Ok-true.field-0-test in let b = c.hands_in.ensures in omega (arith, a, b)
+overflow_sub-left g c = let a = c.in-Ok-true.ensures.counted.0 c.in-Ok-true.field-0-test in let b = c.hands_in.ensures in omega (arith, a, b)
 
 pub loop-n-preserved : goal.loop-n-preserved
 loop-n-preserved g c =
@@ -148,7 +148,7 @@ loop-n-preserved g c =
           let w = c.loop-n.invariant.came laws past h in
           let plays = rw c.in-Ok-true.field-0-test at c.in-Ok-true.ensures.plays in
           let p = plays laws past _ w.0 in (
-            subst (λ (cs : List (choices.Choice Key)). HasCome g.R.Rules.next (leaves.read c.args.tree.now) past cs c.play_choice.new.graph c.play_choice.new.round) (sym newest_is) p.1,
+            subst (λ (cs : List (choices.Choice Key)). HasCome g.R.Rules.next (leaves.read c.args.tree.now) past cs c.play_choice.new.graph c.play_choice.new.play.round) (sym newest_is) p.1,
             subst (λ (cs : List (choices.Choice Key)). choices.Legal g.R.Rules.next cycle (leaves.read c.args.tree.now) (record_at past.entry) past.roots cs) (sym newest_is) (one p.0 w.1),
           );
       not_sooner = λ laws past h m l. elim (below_next m c.loop-n.n l) [
@@ -156,13 +156,13 @@ loop-n-preserved g c =
         | inr e ↦
             let w = c.loop-n.invariant.came laws past h in
             let p = c.loop-n.invariant.playing in
-            let k = one_open c.loop-n.graph c.loop-n.round c.loop-n.turns.items p (λ s. true_false (c.stalled.ensures.1 s) c.if-stalled.false) in
+            let k = one_open c.loop-n.graph c.loop-n.play.round c.loop-n.play.turns.items p (λ s. true_false (c.stalled.ensures.1 s) c.if-stalled.false) in
             subst (λ (n : ℕ). LacksRoot g.R.Rules.next (leaves.read c.args.tree.now) past (take n c.args.choices.now)) (sym e)
-            (lacks_root g.R.Rules.next (leaves.read c.args.tree.now) laws past _ c.loop-n.graph (round_view c.loop-n.round) p.0.0 w.0.roots w.0.truth k.0 k.1)
+            (lacks_root g.R.Rules.next (leaves.read c.args.tree.now) laws past _ c.loop-n.graph (round_view c.loop-n.play.round) p.0.0 w.0.roots w.0.truth k.0 k.1)
       ];
-      handed = subst (HasHanded c.play_choice.new.round c.play_choice.new.turns.items) (sym hands_are) (c.in-Ok-true.ensures.hands c.in-Ok-true.field-0-test _ c.loop-n.invariant.handed);
-      counted = counted_on c.in-Ok-true.field-0 (hand_of c.index-choices-n.result) (g.R.Rules.turns c.loop-n.rules) (g.R.Rules.turns c.play_choice.new.rules) (hands (take c.loop-n.n c.args.choices.now)) (hands (take (c.loop-n.n + 1) c.args.choices.now)) (g.R.Rules.turns c.args.rules.now) c.in-Ok-true.field-0-test c.in-Ok-true.ensures.counted c.loop-n.invariant.counted hands_are;
-      spent = one_spent c.loop-n.left c.hands_in.result (hands (take c.loop-n.n c.args.choices.now)) (hands (take (c.loop-n.n + 1) c.args.choices.now)) (hand_of c.index-choices-n.result) c.args.budget c.hands_in.ensures (c.in-Ok-true.ensures.left c.in-Ok-true.field-0-test) hands_are c.loop-n.invariant.spent;
+      handed = subst (HasHanded c.play_choice.new.play.round c.play_choice.new.play.turns.items) (sym hands_are) (c.in-Ok-true.ensures.hands c.in-Ok-true.field-0-test _ c.loop-n.invariant.handed);
+      counted = counted_on c.in-Ok-true.field-0 (hand_of c.index-choices-n.result) (g.R.Rules.turns c.loop-n.rules) (g.R.Rules.turns c.play_choice.new.rules) (hands (take c.loop-n.n c.args.choices.now)) (hands (take (c.loop-n.n + 1) c.args.choices.now)) (g.R.Rules.turns c.args.rules.now) c.in-Ok-true.field-0-test c.in-Ok-true.ensures.counted.1 c.loop-n.invariant.counted hands_are;
+      spent = one_spent c.loop-n.left c.hands_in.result (hands (take c.loop-n.n c.args.choices.now)) (hands (take (c.loop-n.n + 1) c.args.choices.now)) (hand_of c.index-choices-n.result) c.args.budget c.hands_in.ensures (c.in-Ok-true.ensures.counted.0 c.in-Ok-true.field-0-test) hands_are c.loop-n.invariant.spent;
     }
 
 pub returns-in_err-close_stall-2-clause-stopped : goal.returns-in_err-close_stall-2-clause-stopped
@@ -176,12 +176,12 @@ returns-then-stalled-2-clause-replays g c = λ past h.
     let i = c.loop-n.invariant in
     let w = i.came laws past h in
     let stall = c.stalled-2.ensures.0 c.if-stalled-2.true in
-    let back = all_back c.loop-n.round c.loop-n.turns.items _ (no_turns c.loop-n.graph c.loop-n.round c.loop-n.turns.items i.playing stall.1) i.handed in (
+    let back = all_back c.loop-n.play.round c.loop-n.play.turns.items _ (no_turns c.loop-n.graph c.loop-n.play.round c.loop-n.play.turns.items i.playing stall.1) i.handed in (
       c.in_ok-close_stall-2.ensures.law (leaves.read c.args.tree.now) g.R.Rules.next laws past _ w.0.roots w.0.truth,
       record {
         number = c.loop-n.n;
         legal = w.1;
-        at_stall = stalled_is g.R.Rules.next (leaves.read c.args.tree.now) laws past _ c.loop-n.graph (round_view c.loop-n.round) i.playing.0.0 w.0.roots w.0.truth stall;
+        at_stall = stalled_is g.R.Rules.next (leaves.read c.args.tree.now) laws past _ c.loop-n.graph (round_view c.loop-n.play.round) i.playing.0.0 w.0.roots w.0.truth stall;
         turns = sym (c.in_ok-close_stall-2.ensures.made (hands (take c.loop-n.n c.args.choices.now)) back);
         not_sooner = i.not_sooner laws past h;
       },
@@ -191,7 +191,7 @@ pub returns-then-stalled-2-clause-turns : goal.returns-then-stalled-2-clause-tur
 returns-then-stalled-2-clause-turns g c =
     let i = c.loop-n.invariant in
     let stall = c.stalled-2.ensures.0 c.if-stalled-2.true in
-    let back = all_back c.loop-n.round c.loop-n.turns.items _ (no_turns c.loop-n.graph c.loop-n.round c.loop-n.turns.items i.playing stall.1) i.handed in
+    let back = all_back c.loop-n.play.round c.loop-n.play.turns.items _ (no_turns c.loop-n.graph c.loop-n.play.round c.loop-n.play.turns.items i.playing stall.1) i.handed in
     i.counted ∙ ap (λ n. g.R.Rules.turns c.args.rules.now + n) (c.in_ok-close_stall-2.ensures.made (hands (take c.loop-n.n c.args.choices.now)) back)
 
 pub returns-then-stalled-2-clause-unspent : goal.returns-then-stalled-2-clause-unspent
@@ -209,8 +209,8 @@ returns-clause-replays g c = λ past h.
     let laws : IsNext g.R.Rules.next = record { groups_differ = g.met.R.Rules.groups_differ; ends_plain = g.met.R.Rules.ends_plain } in
     let w = c.loop-n.invariant.came laws past h in
     let whole = take_whole c.args.choices.now c.loop-n.n c.loop-n-test.false in
-    let k = one_open c.loop-n.graph c.loop-n.round c.loop-n.turns.items c.loop-n.invariant.playing (λ s. true_false (c.stalled-2.ensures.1 s) c.if-stalled-2.false) in
-    let r = root_open g.R.Rules.next (leaves.read c.args.tree.now) laws past _ c.loop-n.graph c.loop-n.round.table c.loop-n.invariant.playing.0.0.whole w.0.truth k.0 k.1 in (
+    let k = one_open c.loop-n.graph c.loop-n.play.round c.loop-n.play.turns.items c.loop-n.invariant.playing (λ s. true_false (c.stalled-2.ensures.1 s) c.if-stalled-2.false) in
+    let r = root_open g.R.Rules.next (leaves.read c.args.tree.now) laws past _ c.loop-n.graph c.loop-n.play.round.table c.loop-n.invariant.playing.0.0.whole w.0.truth k.0 k.1 in (
       w.0.truth.after,
       (r.0, subst (In r.0) h.of_roots r.1, r.2),
       subst (λ (made : List Choice). AreLegal g.R.Rules.next (leaves.read c.args.tree.now) past made) whole w.1,

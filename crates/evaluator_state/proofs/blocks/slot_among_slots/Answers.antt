@@ -1,7 +1,7 @@
 use Rattle.std.proofs.Common.{Some, ap, sym, ◌∙◌}
 use Rattle.evaluator_state.specs.declared.state.Slot.{Slot}
 use Rattle.evaluator_state.proofs.Searches.{slot_there, slot_none}
-use Rattle.evaluator_state.proofs.blocks.slot_in.Goals as goal
+use Rattle.evaluator_state.proofs.blocks.slot_among_slots.Goals as goal
 
 pub returns-in-Some : goal.returns-in-Some
 returns-in-Some c =

@@ -7,7 +7,7 @@ use Rattle.evaluator_semantics.specs.Arguments.{plain_part, named_part}
 use Rattle.evaluator_state.specs.View.{block_of}
 use Rattle.evaluator_calls.proofs.Accepts.{rest_all}
 use Rattle.evaluator_calls.proofs.BlockNames.{own_names, arguments_names, names_filled}
-use Rattle.evaluator_calls.proofs.blocks.call_block.Goals as goal
+use Rattle.evaluator_calls.proofs.blocks.slot_block.Goals as goal
 
 pub small_block-requires : goal.small_block-requires
 small_block-requires c =
