@@ -43,6 +43,25 @@ def defaults(count: int) -> list[Command]:
     return of_module(f"def f({listed(count, 'p{}=0')}): pass\n{calls}")
 
 
+def defaults_and_names(count: int) -> list[Command]:
+    """A function of so many defaults, called a thousand times with seventeen arguments by name."""
+    calls = f"def g():\n    for i in range(1000): f({listed(17, 'p{}=0')})\ng()\n"
+    return of_module(f"def f({listed(count, 'p{}=0')}): pass\n{calls}")
+
+
+def functions_with_a_doubled_name(count: int) -> list[Command]:
+    """A file of so many functions of which two have one name, and calls of the last other one."""
+    functions = "".join(f"def f{number}(): pass\n" for number in range(count))
+    calls = f"[0 for i in range(65536) for j in [0, 0] if f{count - 1}()]\n"
+    return of_module(f"{functions}{calls}def f0(): pass\n")
+
+
+def branches_that_are_not_taken(count: int) -> list[Command]:
+    """A condition that ends before a list of so many numbers, tested 196,608 times."""
+    text = f"[0 for i in range(65536) for j in [0, 0, 0] if 0 and [{'0,' * count}]]\n"
+    return [put("s/BUILD", text), load("s")]
+
+
 def includes(count: int) -> list[Command]:
     """A glob with so many includes."""
     text = f"x = glob([str(i) for i in range({count})])\n"
@@ -53,6 +72,13 @@ def includes_from_the_last(count: int) -> list[Command]:
     """A glob with so many includes, each less than the one before."""
     text = f"x = glob([str(10000000 - i) for i in range({count})])\n"
     return [put("s/BUILD", text), load("s")]
+
+
+def includes_of_files(count: int) -> list[Command]:
+    """A glob that includes each of so many files by its name."""
+    files = [put(f"s/f{it}", "") for it in range(count)]
+    names = f'["f" + str(i) for i in range({count})]'
+    return [*files, put("s/BUILD", f"x = glob({names})\n"), load("s")]
 
 
 def globs(count: int) -> list[Command]:
@@ -142,7 +168,11 @@ GROWTHS: dict[str, tuple[Callable[[int], list[Command]], int, str]] = {
     "arguments by name": (arguments_by_name, 6_000, '{"exports":["f"]}'),
     "arguments under names of no parameter": (unknown_names, 12_000, WRONG_ARGUMENTS),
     "defaults of a function": (defaults, 6_000, '{"exports":["f","g"]}'),
+    "defaults and arguments by name": (defaults_and_names, 6_000, '{"exports":["f","g"]}'),
+    "functions with a doubled name": (functions_with_a_doubled_name, 7_000, '"code":26'),
+    "branches that are not taken": (branches_that_are_not_taken, 60_000, EMPTY),
     "includes of a glob": (includes, 16_384, EMPTY),
+    "includes of a glob that are files": (includes_of_files, 32_768, EMPTY),
     "includes of a glob in descending order": (includes_from_the_last, 16_384, EMPTY),
     "globs of one include": (globs, 3_000, EMPTY),
     "globs of includes that have answers": (answered_globs, 16_384, EMPTY),

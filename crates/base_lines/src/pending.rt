@@ -96,9 +96,8 @@ impl Pending {
         }
     }
 
-    /// Reads more bytes from the input where none are pending. Returns how many it read.
+    /// Reads bytes from the input in the place of those that are pending. Returns how many it read.
     fn fill<R: Input>(&mut self, input: &mut R) -> Result<usize, LineError>
-        requires { self.old ≡ [] }
         ensures told { OnOk result (R.told input.new ≡ R.told input.old ++ self.new) }
         ensures count { IfOk result (λ n. n ≡ length self.new) }
         ensures left { IfOk result (λ n. R.left input.new + n ≤ R.left input.old) }

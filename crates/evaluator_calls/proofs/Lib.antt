@@ -5,6 +5,7 @@ pub mod Each
 pub mod Ends
 pub mod Freezes
 pub mod NamedTables
+pub mod ParameterPlaces
 pub mod ParameterValues
 pub mod Runs
 pub mod SparseCalls

@@ -25,7 +25,7 @@ use Rattle.evaluator_semantics.specs.Names.{or_else, all_unbound}
 use Rattle.evaluator_semantics.specs.Arguments.{value_named, first_of_list, next_default, other_defaults, with_parameter, parameter_block, are_parameters, arguments}
 use Rattle.evaluator_state.specs.declared.sparse.SparseBlock.{SparseBlock}
 use Rattle.evaluator_state.specs.declared.state.Block.TheVariants.{Sparse}
-use Rattle.evaluator_state.specs.Sparse.{given_at, argument_at, value_at, valued}
+use Rattle.evaluator_state.specs.Sparse.{given_by, given_at, named_at, argument_at, value_at, valued}
 use Rattle.evaluator_calls.specs.View.{IsEntered}
 use Rattle.evaluator_calls.specs.SparseCalls.{AreGiven, NoneNamed, AllNamed}
 use Rattle.evaluator_calls.proofs.Accepts.{named_some, arguments_known}
@@ -228,7 +228,7 @@ block_filled f all others names plain ns ds r are same =
     not_below : (j : ℕ) → length all ≤ j → nat_lt j (length all) ≡ false
     not_below j h = grind (arith, nat_tests, h)
 
-pub entered : (d : Def) (b : SparseBlock) (plain : List Val) (ns : KeywordArguments) (ds : List Val) → arc_value b.def ≡ d → b.positional.items ≡ plain → zip b.names.items b.values.items ≡ ns → (arc_value b.defaults).items ≡ ds → b.bound.entries ≡ []
+pub entered : (d : Def) (b : SparseBlock) (plain : List Val) (ns : KeywordArguments) (ds : List Val) → arc_value b.def ≡ d → b.positional.items ≡ plain → ((x : List ℕ) → named_at b x ≡ value_named x ns) → (arc_value b.defaults).items ≡ ds → b.bound.entries ≡ []
     → AreRequired b.required (fn_of d).params → AreGiven (fn_of d).params b.required (length plain) ns (length ds) → is_twice ns ≡ false → are_parameters ns (fn_of d).params ≡ true → IsEntered (fn_of d) (arguments (fn_of d) plain ns ds) (Sparse b)
 entered d b plain ns ds called first others defaults none needed given once known =
     let all = (fn_of d).params in
@@ -240,8 +240,8 @@ entered d b plain ns ds called first others defaults none needed given once know
       are = arguments_known (fn_of d) plain ns ds once known ∙ all_filled all plain ns ds b.required needed given;
       holds = block_filled (value_at b) all bound (arc_value b.def).names.items plain ns ds b.required (ap (λ (e : Def). e.names.items) called ∙ d.bound) (λ x j.
           ap (λ es. or_else (lookup (nat_eq j) es) (argument_at b x j)) none
-          ∙ ap (λ n. given_at n b.positional.items (zip b.names.items b.values.items) (arc_value b.defaults).items b.required x j) number
-          ∙ ap (λ l. given_at (length all) l (zip b.names.items b.values.items) (arc_value b.defaults).items b.required x j) first
-          ∙ ap (λ l. given_at (length all) plain l (arc_value b.defaults).items b.required x j) others
+          ∙ ap (λ n. given_by n b.positional.items (named_at b) (arc_value b.defaults).items b.required x j) number
+          ∙ ap (λ l. given_by (length all) l (named_at b) (arc_value b.defaults).items b.required x j) first
+          ∙ ap (λ o. given_by (length all) plain (λ _. o) (arc_value b.defaults).items b.required x j) (others x)
           ∙ ap (λ l. given_at (length all) plain ns l b.required x j) defaults);
     }

@@ -1,5 +1,6 @@
 pub mod ExportTables
 pub mod Freeze
+pub mod Modules
 pub mod NamedArguments
 pub mod Once
 pub mod ParameterValue

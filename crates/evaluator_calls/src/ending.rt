@@ -1,9 +1,10 @@
 //! The module that the evaluation of a file leaves.
-ghost use Rattle.std.specs.Prelude.{◌≡◌, ◌≤◌, ℕ, List, IfOk, map};
-ghost use Rattle.evaluator_semantics.specs.Environment.{Env, defs};
-ghost use Rattle.evaluator_semantics.specs.Files.{frozen_loads, frozen_module};
-ghost use Rattle.syntax_tree.specs.Statements.{top_of, load_of, file_of};
+ghost use Rattle.std.specs.Prelude.{◌≡◌, ◌≤◌, ℕ, List, IfOk};
+ghost use Rattle.evaluator_semantics.specs.Environment.{Env};
+ghost use Rattle.evaluator_semantics.specs.Files.{frozen_module};
+ghost use Rattle.syntax_tree.specs.Statements.{file_of};
 ghost use Rattle.evaluator_state.specs.View.{world_of, here_of, Ran};
+ghost use Rattle.evaluator_calls.specs.Modules.{body_of};
 
 use crate::freeze::{freeze_defaults, freeze_globals};
 use crate::module_parts::{frozen_loads, functions_of, reached_once};
@@ -24,17 +25,8 @@ fn module_of(
     own: Vec<Binding>,
     defaults: Vec<Defaults>,
 ) -> Result<Module, Memory>
-    ensures { IfOk result
-        (λ m. m ≡ record {
-          label = at.now.label;
-          path = at.now.path;
-          own = own.items;
-          loaded =
-              frozen_loads (map load_of file.now.loads.items) loads.now;
-          functions = defs
-              (map top_of file.now.tops.items);
-          defaults = defaults.items;
-        }) }
+    ensures { IfOk result (λ m. m ≡ body_of at.now.label at.now.path (file_of file.now) loads.now
+        own.items defaults.items) }
 {
     let loaded = frozen_loads(alloc, file.loads.as_slice(), loads)?;
     let functions = functions_of(alloc, file.tops.as_slice())?;

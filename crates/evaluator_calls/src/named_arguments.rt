@@ -6,14 +6,15 @@ ghost use Rattle.values_semantics.specs.Comparing.{same_text};
 ghost use Rattle.values_semantics.specs.Functions.{is_twice};
 ghost use Rattle.evaluator_semantics.specs.Arguments.{value_named, is_parameter, are_parameters};
 ghost use Rattle.syntax_tree.specs.Statements.{param_of};
-ghost use Rattle.evaluator_calls.specs.NamedArguments.{Finds};
+ghost use Rattle.evaluator_calls.specs.NamedArguments.{Finds, Keeps};
 
 use base_types::{Memory, Text};
 use evaluator_state::value_named;
+use indexmap::IndexSet;
 use std::alloc::Global;
 use std::collections::{HashMap, HashSet};
 use std::marker::Model;
-use syntax_tree::Param;
+use syntax_tree::{Def, Param};
 use values_heap::Val;
 
 /// The most arguments that are searched one by one; for more a table of their names is made.
@@ -91,6 +92,32 @@ fn names_of(alloc: Global, params: &[Param]) -> Result<HashSet<Text>, Memory>
     Ok(all)
 }
 
+// Returns whether a name is a parameter's, by the set of all names of a function, of which those of the parameters are
+// the first.
+fn is_parameter_of(def: &Def, index: &IndexSet<Text>, x: &Text) -> bool
+    requires { index.now.keys ≡ def.now.names.items }
+    ensures { result ≡ is_parameter x.now (map param_of def.now.params.items) }
+{
+    match index.get_index_of(x) {
+        Some(place) => place < def.params.len(),
+        None => false,
+    }
+}
+
+// Returns whether each argument has the name of a parameter, by the set of all names of the function.
+fn are_known_to(def: &Def, index: &IndexSet<Text>, names: &[Text], values: &[Val]) -> bool
+    requires { index.now.keys ≡ def.now.names.items }
+    ensures { result ≡ are_parameters (zip names.now values.now)
+        (map param_of def.now.params.items) }
+{
+    for i in 0..names.len().min(values.len()) {
+        if !is_parameter_of(def, index, &names[i]) {
+            return false;
+        }
+    }
+    true
+}
+
 // Returns whether a name is a parameter's.
 fn is_parameter(params: &[Param], x: &Text) -> bool
     ensures { result ≡ is_parameter x.now (map param_of params.now) }
@@ -127,6 +154,25 @@ fn are_known(names: &[Text], values: &[Val], known: &HashSet<Text>, params: &[Pa
         }
     }
     true
+}
+
+// Copies names.
+fn copy_names(alloc: Global, names: &[Text]) -> Result<Vec<Text>, Memory>
+    ensures { IfOk result (λ v. v.items ≡ names.now) }
+{
+    let mut all = Vec::with_capacity(alloc, names.len())?;
+    for name in names.iter() {
+        all.push(name.share()?)?;
+    }
+    Ok(all)
+}
+
+/// Named arguments as a block has them: few by a list of names and one of values, many by a table.
+#[derive(Drop)]
+pub struct KeptArguments {
+    pub names: Vec<Text>,
+    pub values: Vec<Val>,
+    pub table: Option<HashMap<Text, Val>>,
 }
 
 impl<'a> NamedArguments<'a> {
@@ -187,5 +233,41 @@ impl<'a> NamedArguments<'a> {
         }
         let known = names_of(alloc, params)?;
         Ok(are_known(self.names, self.values, &known, params))
+    }
+
+    /// Returns whether each argument has the name of a parameter of a function, by the set of the function's names. The
+    /// time is proportional to the number of arguments.
+    pub fn are_parameters_of(&self, def: &Def, index: &IndexSet<Text>) -> bool
+        requires { index.now.keys ≡ def.now.names.items }
+        ensures { result ≡ are_parameters self.now (map param_of def.now.params.items) }
+    {
+        are_known_to(def, index, self.names, self.values)
+    }
+
+    /// Returns the arguments as a block has them.
+    ///
+    /// # Errors
+    ///
+    /// Returns `Memory` if an allocation fails.
+    pub fn keep(self, alloc: Global) -> Result<KeptArguments, Memory>
+        ensures { IfOk result (λ k. Keeps k self.entry) }
+    {
+        let NamedArguments {
+            names,
+            values,
+            table,
+        } = self;
+        match table {
+            Some(Table { values: table }) => Ok(KeptArguments {
+                names: Vec::new(alloc),
+                values: Vec::new(alloc),
+                table: Some(table),
+            }),
+            None => Ok(KeptArguments {
+                names: copy_names(alloc, names)?,
+                values: Vec::from_slice(alloc, values)?,
+                table: None,
+            }),
+        }
     }
 }

@@ -7,7 +7,7 @@ ghost use Rattle.evaluator_calls.specs.View.{IsEntered};
 ghost use Rattle.evaluator_state.specs.SharedDefaults.{default_values};
 ghost use Rattle.evaluator_calls.specs.SparseCalls.{NoneNamed, AllNamed, AreGiven};
 
-use crate::named_arguments::NamedArguments;
+use crate::named_arguments::{KeptArguments, NamedArguments};
 use base_types::{Memory, Text};
 use evaluator_state::{Block, SparseBlock};
 use std::alloc::Global;
@@ -15,9 +15,6 @@ use std::collections::HashMap;
 use std::sync::Arc;
 use syntax_tree::{Def, Param};
 use values_heap::Val;
-
-/// The most named arguments of a call whose block is sparse, since each look-up of a parameter goes over them.
-const FEW: usize = 16;
 
 // Returns whether no parameter of a range is named.
 fn none_named(params: &[Param], to: usize, named: &NamedArguments<'_>) -> bool
@@ -43,17 +40,6 @@ fn all_named(params: &[Param], from: usize, to: usize, named: &NamedArguments<'_
         }
     }
     true
-}
-
-// Copies names.
-fn copy_names(alloc: Global, names: &[Text]) -> Result<Vec<Text>, Memory>
-    ensures { IfOk result (λ v. v.items ≡ names.now) }
-{
-    let mut all = Vec::with_capacity(alloc, names.len())?;
-    for name in names.iter() {
-        all.push(name.share()?)?;
-    }
-    Ok(all)
 }
 
 // Shares the values of defaults.
@@ -87,7 +73,7 @@ fn are_given(
 }
 
 /// Makes the block of a call of a function with many names, if it has what the call gives alone. It has not if the
-/// arguments are wrong, if many of them are named, or if a parameter without a default comes after one that has one.
+/// arguments are wrong, or if a parameter without a default comes after one that has one.
 ///
 /// # Errors
 ///
@@ -106,26 +92,32 @@ pub fn sparse_block(
     let Some(required) = def.required else {
         return Ok(None);
     };
-    if def.index.is_none() || names.len() > FEW {
+    let Some(index) = &def.index else {
         return Ok(None);
-    }
+    };
     let (plain, values) = xs.split_at(xs.len().saturating_sub(names.len()));
     let Some(named) = NamedArguments::new(alloc, names, values)? else {
         return Ok(None);
     };
     let params = def.params.as_slice();
-    if !named.are_parameters(alloc, params)? {
+    if !named.are_parameters_of(def, index) {
         return Ok(None);
     }
     let defaults = share_defaults(alloc, defaults)?;
     if !are_given(params, required, plain.len(), &named, defaults.len()) {
         return Ok(None);
     }
+    let KeptArguments {
+        names,
+        values,
+        table,
+    } = named.keep(alloc)?;
     Ok(Some(Block::Sparse(SparseBlock {
         def: Arc::try_clone(def)?,
         positional: Vec::from_slice(alloc, plain)?,
-        names: copy_names(alloc, names)?,
-        values: Vec::from_slice(alloc, values)?,
+        names,
+        values,
+        table,
         defaults,
         required,
         bound: HashMap::new(alloc),

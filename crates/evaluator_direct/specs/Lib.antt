@@ -1,5 +1,5 @@
 pub mod Quiet
-pub mod Making
+pub mod Weight
 pub mod Parts
 pub mod View
 pub mod StatementResults

@@ -1,13 +1,13 @@
--- What is evaluated and run at once: an expression that can wait for nothing and makes few values, and a statement all of
--- whose parts are such.
+-- What is evaluated and run at once: an expression that can wait for nothing and is light, and a statement all of whose
+-- parts are such.
 use Rattle.std.specs.Prelude.{ℕ, List, Bool, false, ◌&&◌}
 use Rattle.syntax_tree.specs.Tree as t
 use Rattle.syntax_tree.specs.Tree.{Ex, St}
 use Rattle.evaluator_direct.specs.Quiet.{quiet}
-use Rattle.evaluator_direct.specs.Making.{making, is_few}
+use Rattle.evaluator_direct.specs.Weight.{weight, is_light}
 
 abbrev pub at_once : (List ℕ → Bool) → Ex → Bool
-at_once free e = quiet free e && is_few (making e)
+at_once free e = quiet free e && is_light (weight e)
 
 -- an assignment to a name or an index
 abbrev pub assigned_at_once : (List ℕ → Bool) → Ex → Ex → Bool

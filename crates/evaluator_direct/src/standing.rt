@@ -6,27 +6,27 @@ ghost use Rattle.evaluator_semantics.specs.Expressions.{Call};
 ghost use Rattle.syntax_tree.specs.View.{tree_of, trees_of};
 ghost use Rattle.evaluator_state.specs.View.{world_of, here_of, Ran, RanItems};
 ghost use Rattle.evaluator_direct.specs.Quiet.{quiet, quiets};
-ghost use Rattle.evaluator_direct.specs.Making.{making, makings, is_few};
+ghost use Rattle.evaluator_direct.specs.Weight.{weight, weights, is_light};
 ghost use Rattle.evaluator_direct.specs.View.{free_at};
 
 use crate::evaluating::{value, values};
-use crate::quiet::{are_quiet_and_few, is_quiet_and_few};
+use crate::quiet::{are_quiet_and_light, is_quiet_and_light};
 use evaluator_state::{Position, Scope, State};
 use syntax_tree::Expr;
 use values_heap::{Halt, Val};
 
-/// Returns whether an expression is evaluated at once where it stands: its evaluation can wait for nothing, and makes
-/// few values.
+/// Returns whether an expression is evaluated at once where it stands: its evaluation can wait for nothing, and it is
+/// light, with few parts that make few values.
 pub fn is_quiet_at(state: &State, at: &Position, e: &Expr) -> bool
-    ensures { result ≡ (quiet (free_at at.now state.now) (tree_of e.now) && is_few
-        (making (tree_of e.now))) }
+    ensures { result ≡ (quiet (free_at at.now state.now) (tree_of e.now) && is_light
+        (weight (tree_of e.now))) }
 {
     let scope = Scope {
         blocks: state.blocks.as_slice(),
         files: state.files.as_slice(),
         at,
     };
-    is_quiet_and_few(&scope, e)
+    is_quiet_and_light(&scope, e)
 }
 
 /// Evaluates a quiet expression where it stands. The heap alone is changed.
@@ -47,18 +47,18 @@ pub fn value_at(state: &mut State, at: &Position, e: &Expr) -> Result<Val, Halt>
     value(&mut state.heap, &scope, e)
 }
 
-/// Returns whether several expressions are evaluated at once where they stand: that can wait for nothing, and makes few
-/// values.
+/// Returns whether several expressions are evaluated at once where they stand: that can wait for nothing, and they are
+/// light together, with few parts that make few values.
 pub fn are_quiet_at(state: &State, at: &Position, es: &[Expr]) -> bool
-    ensures { result ≡ (quiets (free_at at.now state.now) (trees_of es.now) && is_few
-        (makings (trees_of es.now))) }
+    ensures { result ≡ (quiets (free_at at.now state.now) (trees_of es.now) && is_light
+        (weights (trees_of es.now))) }
 {
     let scope = Scope {
         blocks: state.blocks.as_slice(),
         files: state.files.as_slice(),
         at,
     };
-    are_quiet_and_few(&scope, es)
+    are_quiet_and_light(&scope, es)
 }
 
 /// Evaluates several quiet expressions where they stand, in order. The heap alone is changed.

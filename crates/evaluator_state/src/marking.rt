@@ -2,8 +2,9 @@
 
 use crate::sparse::SparseBlock;
 use crate::state::{Block, FileNames, FunctionDefaults, SlotBlock, State};
-use base_types::Memory;
-use values_heap::Marks;
+use base_types::{Memory, Text};
+use std::collections::HashMap;
+use values_heap::{Marks, Val};
 
 // Marks the values of slots as reached.
 fn mark_slots(reached: &mut Marks, block: &SlotBlock) -> Result<(), Memory> {
@@ -15,10 +16,21 @@ fn mark_slots(reached: &mut Marks, block: &SlotBlock) -> Result<(), Memory> {
     Ok(())
 }
 
+// Marks the values of many named arguments as reached.
+fn mark_table(reached: &mut Marks, table: &HashMap<Text, Val>) -> Result<(), Memory> {
+    for value in table.values() {
+        reached.add(*value)?;
+    }
+    Ok(())
+}
+
 // Marks what a call gave, and the values that were bound since, as reached. The defaults are reached by their file.
 fn mark_sparse(reached: &mut Marks, block: &SparseBlock) -> Result<(), Memory> {
     reached.add_all(block.positional.as_slice())?;
     reached.add_all(block.values.as_slice())?;
+    if let Some(table) = &block.table {
+        mark_table(reached, table)?;
+    }
     for value in block.bound.values() {
         reached.add(*value)?;
     }

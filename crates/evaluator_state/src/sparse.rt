@@ -6,7 +6,7 @@ ghost use Rattle.values_semantics.specs.Comparing.{same_text};
 ghost use Rattle.evaluator_semantics.specs.Names.{slot_in, bind_in};
 ghost use Rattle.evaluator_semantics.specs.Arguments.{value_named};
 ghost use Rattle.evaluator_state.specs.Places.{FirstPlace};
-ghost use Rattle.evaluator_state.specs.Sparse.{argument_at, value_at, sparse_view};
+ghost use Rattle.evaluator_state.specs.Sparse.{named_at, argument_at, value_at, sparse_view};
 
 use crate::places::is_same;
 use base_types::{Memory, Text};
@@ -21,9 +21,11 @@ pub struct SparseBlock {
     pub def: Arc<Def, Global>,
     /// The positional arguments.
     pub positional: Vec<Val>,
-    /// The names of the other arguments, and their values.
+    /// The names of the other arguments, and their values, if they are few.
     pub names: Vec<Text>,
     pub values: Vec<Val>,
+    /// The values of the other arguments by their names, if they are many.
+    pub table: Option<HashMap<Text, Val>>,
     /// The values of the defaults, and how many parameters come before the first that has one.
     pub defaults: Arc<Vec<Val>, Global>,
     pub required: usize,
@@ -38,6 +40,7 @@ impl Drop for SparseBlock {
             positional: _,
             names: _,
             values: _,
+            table: _,
             defaults: _,
             required: _,
             bound: _,
@@ -80,6 +83,16 @@ impl SparseBlock {
         }
     }
 
+    // Returns the value of a named argument.
+    fn named(&self, x: &Text) -> Option<Val>
+        ensures { result ≡ named_at self.now x.now }
+    {
+        match &self.table {
+            Some(table) => table.get(x).copied(),
+            None => value_named(self.names.as_slice(), self.values.as_slice(), x),
+        }
+    }
+
     // Returns what the call gives to the name at a place.
     fn argument(&self, place: usize, x: &Text) -> Option<Val>
         ensures { result ≡ argument_at self.now x.now place }
@@ -90,7 +103,7 @@ impl SparseBlock {
         if let Some(value) = self.positional.get(place) {
             return Some(*value);
         }
-        if let Some(value) = value_named(self.names.as_slice(), self.values.as_slice(), x) {
+        if let Some(value) = self.named(x) {
             return Some(value);
         }
         self.defaults

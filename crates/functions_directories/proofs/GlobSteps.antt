@@ -1,5 +1,6 @@
 -- One name and its answer more.
 use Rattle.std.proofs.Common.{◌≡◌, ℕ, ◌+◌, ◌-◌, ◌<◌, ◌≤◌, List, [], ◌∷◌, ◌++◌, length, map, take, drop, get_or, Bool, true, false, cond, sym, ◌∙◌, ap, arith}
+use Rattle.std.specs.Prelude.{nat_lt}
 use Rattle.std.specs.Arc.{arc_value}
 use Rattle.std.specs.declared.sync.Arc.{Arc}
 use Rattle.std.specs.declared.alloc.Global.{Global}
@@ -7,9 +8,11 @@ use Rattle.std.proofs.lemmas.List.{get_or-map, length-map, length-drop, append_a
 use Rattle.keys.specs.Turns.{values}
 use Rattle.keys.specs.declared.value.Value.{Value}
 use Rattle.std.proofs.lemmas.Bool.{le-ltb}
-use Rattle.engine_semantics.specs.Reply.{Reply, Ask}
+use Rattle.engine_semantics.specs.Reply.{Reply, Ask, Done}
 use Rattle.keys.specs.declared.key.Key.{Key}
-use Rattle.functions_directories.specs.Globs.{files_in, directories_in, asked_names, lookups, has_build, open_names, paths_of, found_below, by_open, after_listing, step}
+use Rattle.keys.specs.declared.value.Value.TheVariants as value
+use Rattle.filetree.specs.Listings.{sorted_names}
+use Rattle.functions_directories.specs.Globs.{files_in, directories_in, own_names, asked_names, directories_to_enter, lookups, has_build, open_names, paths_of, globs, found_below, found_by, by_open, after_listing, step}
 use Rattle.functions_directories.proofs.NamesInOrder.{drop_item}
 
 module _ (names : List (List ℕ)) (answers : List (Arc Value Global)) (i : ℕ) (name : List ℕ) (answer : Arc Value Global)
@@ -53,6 +56,23 @@ by_open_is directory directories pattern files names free answers h e =
     ∙ (λ i. by_open directory directories pattern files (open_names names (values answers)) (sym (drop-map (λ (x : Arc Value Global). arc_value x) (length names) answers) i))
     ∙ sym (ap (λ b. cond b (asking (lookups directory names)) (by_open directory directories pattern files (open_names names (values answers)) (drop (length names) (values answers))))
     (le-ltb (length (values answers)) (length names) (omega (arith, h, length-map answers (λ (x : Arc Value Global). arc_value x)))))
+
+-- the turn that ends with paths
+abbrev ending : List (List ℕ) → Reply Key Value
+ending paths = Done (value.Paths (sorted_names paths))
+
+-- what comes after the look-ups, from the files that are found
+abbrev from_own : List ℕ → Bool → List ℕ → List (List ℕ) → List (List ℕ) → List (List ℕ) → List Value → Reply Key Value
+from_own directory directories pattern own free names answers =
+    cond (nat_lt (length answers) (length (globs directory directories pattern names))) (asking (globs directory directories pattern names))
+    (ending ((own ++ cond directories (own_names pattern free) []) ++ found_by pattern names answers))
+
+-- of the files in a listing only those count that are found
+pub own_alone : (directory : List ℕ) (directories : Bool) (pattern : List ℕ) (files others names : List (List ℕ)) (answers : List Value) → own_names pattern files ≡ own_names pattern others
+    → after_listing directory directories pattern files names answers ≡ after_listing directory directories pattern others names answers
+own_alone directory directories pattern files others names answers e =
+    ap (λ (own : List (List ℕ)). cond (nat_lt (length answers) (length names)) (asking (lookups directory names))
+    (from_own directory directories pattern own (open_names names answers) (directories_to_enter directories pattern (open_names names answers)) (drop (length names) answers))) e
 
 -- and what comes after the listing
 pub after_listing_is : (directory : List ℕ) (directories : Bool) (pattern : List ℕ) (files names : List (List ℕ)) (answers rest : List (Arc Value Global)) (listing : Arc Value Global)

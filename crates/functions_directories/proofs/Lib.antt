@@ -9,5 +9,6 @@ pub mod Grounds
 pub mod LookupValue
 pub mod Lookups
 pub mod Names
+pub mod PossibleNames
 pub mod NamesInOrder
 pub mod Steps

@@ -1,5 +1,6 @@
 //! The node function of a glob.
-ghost use Rattle.std.specs.Prelude.{◌≡◌, ◌∷◌, ◌++◌, length, nat_lt, IfOk, OnOk, map};
+ghost use Rattle.std.specs.Prelude.{◌≡◌, ◌∷◌, ◌++◌, ◌&&◌, length, nat_lt, IfOk, OnOk, map};
+ghost use Rattle.keys.specs.Ascending.{ascend};
 ghost use Rattle.keys.specs.Turns.{values};
 ghost use Rattle.functions_directories.specs.Globs as specs;
 ghost use Rattle.functions_directories.specs.Replies.{IsReply};
@@ -9,6 +10,7 @@ use crate::glob_pattern::{
     path_in, pattern_below,
 };
 use crate::ordering::in_order;
+use crate::possible_names::possible_names;
 use crate::reply::DirectoryTurn;
 use crate::search::Search;
 use base_types::{Memory, Text};
@@ -33,6 +35,17 @@ pub fn directories_in(listing: &Value) -> &[Text]
     match listing {
         Value::Listing(Some(names)) => names.directories(),
         _ => &[],
+    }
+}
+
+// Returns whether the names of the files, and those of the subdirectories, in a listing are in byte order, each once.
+fn are_in_order(listing: &Value) -> bool
+    ensures { result ≡ ascend (specs.files_in listing.now)
+        && ascend (specs.directories_in listing.now) }
+{
+    match listing {
+        Value::Listing(Some(names)) => names.are_in_order(),
+        _ => true,
     }
 }
 
@@ -228,7 +241,7 @@ fn by_open(
     after_lookups(alloc, search, files, free, names.as_slice(), answers)
 }
 
-// Returns what comes after the listing.
+// Returns what comes after the listing, from the names of the files and the subdirectories that are asked for.
 fn after_listing(
     alloc: Global,
     search: Search<'_>,
@@ -253,6 +266,26 @@ fn after_listing(
     )
 }
 
+// Returns what comes after a listing, of whose names only those are looked at that the pattern can match.
+fn by_listing(
+    alloc: Global,
+    search: Search<'_>,
+    listing: &Value,
+    answers: &[Arc<Value>],
+) -> Result<DirectoryTurn, Memory>
+    ensures { IfOk result
+        (IsReply (specs.after_listing search.entry.directory.now search.entry.directories
+        search.entry.pattern.now (specs.files_in listing.now)
+        (specs.asked_names search.entry.directories search.entry.pattern.now
+        (specs.directories_in listing.now)) (values answers.now))) }
+{
+    let ordered = are_in_order(listing);
+    let directories = possible_names(search.pattern, directories_in(listing), ordered);
+    let names = asked_names(alloc, search, directories)?;
+    let files = possible_names(search.pattern, files_in(listing), ordered);
+    after_listing(alloc, search, files, names.as_slice(), answers)
+}
+
 /// Returns what a glob asks for or ends with.
 pub fn glob(
     alloc: Global,
@@ -268,9 +301,6 @@ pub fn glob(
             let listing = Key::Listing(Text::new(alloc, search.directory)?);
             Ok(DirectoryTurn::Ask(vec![in alloc; listing]?))
         }
-        Some((listing, answers)) => {
-            let names = asked_names(alloc, search, directories_in(listing))?;
-            after_listing(alloc, search, files_in(listing), names.as_slice(), answers)
-        }
+        Some((listing, answers)) => by_listing(alloc, search, listing, answers),
     }
 }

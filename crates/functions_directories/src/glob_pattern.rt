@@ -14,8 +14,8 @@ use base_types::{Memory, Text};
 use pattern::{is_double_star, segment_matches};
 use std::alloc::Global;
 
-// Splits a pattern into its first segment and the pattern of the others.
-fn split_pattern(pattern: &str) -> (&str, Option<&str>)
+/// Splits a pattern into its first segment and the pattern of the others.
+pub fn split_pattern(pattern: &str) -> (&str, Option<&str>)
     ensures first { result.0.now ≡ specs.first_segment pattern.now }
     ensures others { option_copied result.1 ≡ specs.other_segments pattern.now }
 {

@@ -25,6 +25,7 @@ mod glob_pattern;
 mod lookup_node;
 mod names_node;
 mod ordering;
+mod possible_names;
 mod reply;
 mod search;
 

@@ -2,3 +2,4 @@ pub mod KeyLaws
 pub mod KeyTexts
 pub mod CycleLaws
 pub mod LeafReads
+pub mod Ascending

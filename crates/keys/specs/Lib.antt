@@ -1,6 +1,7 @@
 pub mod Keys
 pub mod KeyTexts
 pub mod Directories
+pub mod Ascending
 pub mod Values
 pub mod ValueLaws
 pub mod Turns

@@ -1,8 +1,9 @@
 //! The value of a node.
-ghost use Rattle.std.specs.Prelude.{◌≡◌, IfOk};
+ghost use Rattle.std.specs.Prelude.{◌≡◌, ◌&&◌, IfOk};
 ghost use Rattle.std.specs.Cmp.{partial_equiv_from_equiv};
 ghost use Rattle.std.specs.Cmp.Lexicographic.{pointwise};
 ghost use Rattle.std.specs.Arc.{arc_value};
+ghost use Rattle.keys.specs.Ascending as order;
 ghost use Rattle.keys.specs.Values.{text_eq, build_eq, listed_eq, fault_eq, value_eq};
 ghost use Rattle.keys.specs.ValueLaws.{builds_equiv, names_equiv, listed_equiv, faults_equiv, values_equiv};
 
@@ -88,10 +89,19 @@ impl Eq for Names {
     ghost laws = { names_equiv };
 }
 
-/// The names in a directory: of its files, and of its subdirectories, each in byte order.
+// Returns whether each name is below those after it, in one pass over them.
+fn ascend(names: &[Text]) -> bool
+    ensures { result ≡ order.ascend names.now }
+{
+    names.is_sorted_by(|name, next| name.cmp(next).is_lt())
+}
+
+/// The names in a directory: of its files, and of its subdirectories, each in byte order. Whether they are in order was
+/// found out when they were made.
 pub struct DirectoryNames {
     files: Names,
     directories: Names,
+    in_order: bool,
 }
 
 impl Drop for DirectoryNames {
@@ -99,16 +109,21 @@ impl Drop for DirectoryNames {
         let DirectoryNames {
             files: _,
             directories: _,
+            in_order: _,
         } = self;
     }
 }
 
 impl Model for DirectoryNames {
+    ghost use Rattle.std.specs.Prelude.{◌≡◌, ◌&&◌};
+    ghost use Rattle.keys.specs.Ascending.{ascend};
     ghost use Rattle.keys.specs.Directories.{DirectoryView};
 
     ghost Value = { DirectoryView };
 
     ghost view = { λ d. record { files = d.files; directories = d.directories } };
+
+    ghost invariant = { λ d. d.in_order ≡ ascend d.files && ascend d.directories };
 }
 
 impl DirectoryNames {
@@ -117,9 +132,11 @@ impl DirectoryNames {
         ensures files { result.files ≡ files.items }
         ensures directories { result.directories ≡ directories.items }
     {
+        let in_order = ascend(files.as_slice()) && ascend(directories.as_slice());
         DirectoryNames {
             files: Names::new(files),
             directories: Names::new(directories),
+            in_order,
         }
     }
 
@@ -135,6 +152,13 @@ impl DirectoryNames {
         ensures { result.now ≡ self.now.directories }
     {
         self.directories.as_slice()
+    }
+
+    /// Returns whether the names of the files, and those of the subdirectories, are in byte order, each once.
+    pub fn are_in_order(&self) -> bool
+        ensures { result ≡ order.ascend self.now.files && order.ascend self.now.directories }
+    {
+        self.in_order
     }
 }
 

@@ -3,14 +3,17 @@ pub mod Sessions
 pub mod Answers
 pub mod Journal
 pub mod Effects
+pub mod RequestCalls
 pub mod Holding
 pub mod HoldingLaws
 pub mod LineAnswers
 pub mod GraphLinks
 pub mod LineJournal
 pub mod Service
+pub mod ServingCalls
 pub mod KeyAnswers
 pub mod Laws
 pub mod Publishing
+pub mod PublishingCalls
 pub mod PublishingLaws
 pub mod Programs

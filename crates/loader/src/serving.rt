@@ -1,11 +1,11 @@
 //! Serving: the lines of a reader, the replies to them that go to a writer, what is kept of the runs, and the program
 //! but for its `main`.
-ghost use Rattle.std.specs.Prelude.{◌≡◌, [], ℕ, ◌<◌, ◌≤◌, ◌+◌, List, length, IfOk, OnOk, OnErr, IsErrOf, not, ◌&&◌, ◌==◌, false, if◌then◌else◌, ◌⊎◌};
-ghost use Rattle.board.specs.Rule.{total};
+ghost use Rattle.std.specs.Prelude.{◌≡◌, [], ℕ, ◌<◌, List, length, IfOk, OnOk, OnErr, IsErrOf, not, ◌&&◌, ◌==◌, false, ◌⊎◌};
 ghost use Rattle.base_lines.specs.Lines.{HoldsLine};
-ghost use Rattle.round_nodes.specs.TurnCounts.{turns_of};
 ghost use Rattle.round_nodes.specs.declared.run.Run.{Run};
-ghost use Rattle.loader.specs.Service.{Served, Stopped, Between, After};
+ghost use Rattle.loader.specs.RequestCalls.{IsHandCount, ReturnsHands};
+ghost use Rattle.loader.specs.Service.{Served, Stopped};
+ghost use Rattle.loader.specs.ServingCalls.{AddsTurns, KeepFirsts, KeepsReader, KeepsWriter, LeavesLess, StopsLine, TakesLine};
 
 use crate::journal::{EventJournal, GhostJournal, Journal, Runs};
 use crate::session::{Session, reply_to_line, reply_to_line_with};
@@ -106,43 +106,48 @@ fn is_end(ended: bool, line: &Line) -> bool
     !ended && line.is_empty()
 }
 
+// What serving keeps from line to line.
+#[derive(Drop)]
+struct Serving {
+    session: Session,
+    pending: Pending,
+    line: Line,
+}
+
 // Replies to one more line, and returns whether more may come.
 fn serve_line<R: Input, W: Output, J: Runs>(
     alloc: Global,
     reader: &mut R,
     writer: &mut W,
-    session: &mut Session,
+    serving: &mut Serving,
     journal: &mut J,
-    pending: &mut Pending,
-    line: &mut Line,
     budget: u64,
 ) -> Result<bool, ServeStop>
-    ensures ok { IfOk result (λ more. (told held : List ℕ) → Between budget told (R.told reader.old)
-        held (W.held writer.old) pending.old session.old (J.kept journal.old)
-        → After budget more told (R.told reader.new) held (W.held writer.new) pending.new
-        session.new (J.kept journal.new)) }
-    ensures left { IfOk result (λ more. R.left reader.new + length pending.new
-        + (if more then 1 else 0) ≤ R.left reader.old + length pending.old) }
-    ensures err { OnErr result ((told held : List ℕ) → Between budget told (R.told reader.old) held
-        (W.held writer.old) pending.old session.old (J.kept journal.old)
-        → Stopped (R.ends reader.old) (R.ends reader.new) told (R.told reader.new) held
-        (W.held writer.new)) }
-    ensures reader_counts { R.failures reader.old ≤ R.failures reader.new }
-    ensures writer_counts { W.failures writer.old ≤ W.failures writer.new }
+    ensures ok { IfOk result (TakesLine budget serving.old serving.new R.told reader.old reader.new
+        W.held writer.old writer.new J.kept journal.old journal.new) }
+    ensures left { IfOk result (LeavesLess R.left reader.old reader.new serving.old serving.new) }
+    ensures err { OnErr result (StopsLine budget serving.old R.ends R.told reader.old reader.new
+        W.held writer.old writer.new J.kept journal.old) }
     ensures read { IsErrOf result ServeStop.Read → R.failures reader.old < R.failures reader.new }
     ensures write { IsErrOf result ServeStop.Write → W.failures writer.old < W.failures writer.new }
     ensures ended { IfOk result (λ more. more ≡ false → R.ends reader.old < R.ends reader.new) }
-    ensures ends { R.ends reader.old ≤ R.ends reader.new }
-    ensures devices { (R.at_first reader.new ≡ R.at_first reader.old)
-        × (W.at_first writer.new ≡ W.at_first writer.old) }
+    ensures reader { KeepsReader R.failures R.ends R.at_first reader.old reader.new }
+    ensures writer { KeepsWriter W.failures W.at_first writer.old writer.new }
 {
-    let ended = next_line(reader, pending, line)?;
-    if is_end(ended, line) {
+    let ended = next_line(reader, &mut serving.pending, &mut serving.line)?;
+    if is_end(ended, &serving.line) {
         return Ok(false);
     }
-    let text = reply_to_line(alloc, session, journal, line, budget)?;
+    let text = reply_to_line(alloc, &mut serving.session, journal, &serving.line, budget)?;
     writer.write(text.as_bytes())?;
     Ok(ended)
+}
+
+// The threads that make turns, one for each hand.
+#[derive(Drop)]
+struct Workers<'a, T: Threads + Wait + Sync, H: LoadRules + Send + Drop> {
+    runtime: &'a T,
+    hands: Vec<H>,
 }
 
 // Replies to one more line by one thread for each hand, and returns whether more may come. After a stop the hands are
@@ -154,47 +159,38 @@ fn serve_line_with<
     W: Output,
     J: Runs,
 >(
-    runtime: &T,
     alloc: Global,
+    workers: &mut Workers<'_, T, H>,
     reader: &mut R,
     writer: &mut W,
-    session: &mut Session,
+    serving: &mut Serving,
     journal: &mut J,
-    pending: &mut Pending,
-    line: &mut Line,
-    hands: &mut Vec<H>,
     budget: u64,
 ) -> Result<bool, ServeStop>
-    requires { (1 ≤ length hands.old.items) × (length hands.old.items ≤ 16) }
-    ensures hands { OnOk result (length hands.new.items ≡ length hands.old.items) }
-    ensures counted { OnOk result (total H.turns hands.new.items + turns_of (J.kept journal.old)
-        ≡ total H.turns hands.old.items + turns_of (J.kept journal.new)) }
-    ensures ok { IfOk result (λ more. (told held : List ℕ) → Between budget told (R.told reader.old)
-        held (W.held writer.old) pending.old session.old (J.kept journal.old)
-        → After budget more told (R.told reader.new) held (W.held writer.new) pending.new
-        session.new (J.kept journal.new)) }
-    ensures left { IfOk result (λ more. R.left reader.new + length pending.new
-        + (if more then 1 else 0) ≤ R.left reader.old + length pending.old) }
-    ensures err { OnErr result ((told held : List ℕ) → Between budget told (R.told reader.old) held
-        (W.held writer.old) pending.old session.old (J.kept journal.old)
-        → Stopped (R.ends reader.old) (R.ends reader.new) told (R.told reader.new) held
-        (W.held writer.new)) }
-    ensures reader_counts { R.failures reader.old ≤ R.failures reader.new }
-    ensures writer_counts { W.failures writer.old ≤ W.failures writer.new }
+    requires { IsHandCount (length workers.old.hands.items) }
+    ensures hands { OnOk result (AddsTurns H.turns workers.old.hands workers.new.hands
+        J.kept journal.old journal.new) }
+    ensures ok { IfOk result (TakesLine budget serving.old serving.new R.told reader.old reader.new
+        W.held writer.old writer.new J.kept journal.old journal.new) }
+    ensures left { IfOk result (LeavesLess R.left reader.old reader.new serving.old serving.new) }
+    ensures err { OnErr result (StopsLine budget serving.old R.ends R.told reader.old reader.new
+        W.held writer.old writer.new J.kept journal.old) }
     ensures read { IsErrOf result ServeStop.Read → R.failures reader.old < R.failures reader.new }
     ensures write { IsErrOf result ServeStop.Write → W.failures writer.old < W.failures writer.new }
     ensures ended { IfOk result (λ more. more ≡ false → R.ends reader.old < R.ends reader.new) }
-    ensures ends { R.ends reader.old ≤ R.ends reader.new }
-    ensures devices { (R.at_first reader.new ≡ R.at_first reader.old)
-        × (W.at_first writer.new ≡ W.at_first writer.old) }
+    ensures reader { KeepsReader R.failures R.ends R.at_first reader.old reader.new }
+    ensures writer { KeepsWriter W.failures W.at_first writer.old writer.new }
 {
-    let ended = next_line(reader, pending, line)?;
-    if is_end(ended, line) {
+    let ended = next_line(reader, &mut serving.pending, &mut serving.line)?;
+    if is_end(ended, &serving.line) {
         return Ok(false);
     }
-    let lent = mem::replace(hands, Vec::new(alloc));
-    let (back, text) = reply_to_line_with(runtime, alloc, session, journal, line, lent, budget)?;
-    *hands = back;
+    let lent = mem::replace(&mut workers.hands, Vec::new(alloc));
+    let session = &mut serving.session;
+    let line = &serving.line;
+    let done = reply_to_line_with(workers.runtime, alloc, session, journal, line, lent, budget)?;
+    let (back, text) = done;
+    workers.hands = back;
     writer.write(text.as_bytes())?;
     Ok(ended)
 }
@@ -220,22 +216,17 @@ pub fn serve_into<R: Input, W: Output, J: Runs>(
     ensures read { IsErrOf result ServeStop.Read → R.failures reader.old < R.failures reader.new }
     ensures write { IsErrOf result ServeStop.Write → W.failures writer.old < W.failures writer.new }
     ensures ended { OnOk result (R.ends reader.old < R.ends reader.new) }
-    ensures devices { (R.at_first reader.new ≡ R.at_first reader.old)
-        × (W.at_first writer.new ≡ W.at_first writer.old) }
+    ensures devices { KeepFirsts R.at_first reader.old reader.new W.at_first writer.old writer.new }
 {
-    let mut session = Session::new(alloc);
-    let mut pending = Pending::new(alloc)?;
-    let mut line = Line::new(alloc);
-    while serve_line(
-        alloc,
-        reader,
-        writer,
-        &mut session,
-        journal,
-        &mut pending,
-        &mut line,
-        budget,
-    )? {}
+    let session = Session::new(alloc);
+    let pending = Pending::new(alloc)?;
+    let line = Line::new(alloc);
+    let mut serving = Serving {
+        session,
+        pending,
+        line,
+    };
+    while serve_line(alloc, reader, writer, &mut serving, journal, budget)? {}
     Ok(())
 }
 
@@ -258,8 +249,7 @@ pub fn serve_here<R: Input, W: Output>(
     ensures read { IsErrOf result ServeStop.Read → R.failures reader.old < R.failures reader.new }
     ensures write { IsErrOf result ServeStop.Write → W.failures writer.old < W.failures writer.new }
     ensures ended { OnOk result (R.ends reader.old < R.ends reader.new) }
-    ensures devices { (R.at_first reader.new ≡ R.at_first reader.old)
-        × (W.at_first writer.new ≡ W.at_first writer.old) }
+    ensures devices { KeepFirsts R.at_first reader.old reader.new W.at_first writer.old writer.new }
 {
     let mut journal = Vec::new(alloc);
     serve_into(alloc, reader, writer, budget, &mut journal)?;
@@ -284,11 +274,8 @@ pub fn serve_with<
     budget: u64,
     journal: &mut J,
 ) -> Result<Vec<H>, ServeStop>
-    requires hands { (1 ≤ length hands.items) × (length hands.items ≤ 16) }
-    requires none { J.kept journal.old ≡ [] }
-    ensures hands { IfOk result (λ back. length back.items ≡ length hands.items) }
-    ensures counted { IfOk result (λ back. total H.turns back.items ≡ total H.turns hands.items
-        + turns_of (J.kept journal.new)) }
+    requires { IsHandCount (length hands.items) × (J.kept journal.old ≡ []) }
+    ensures hands { IfOk result (λ back. ReturnsHands H.turns hands back (J.kept journal.new)) }
     ensures ok { OnOk result (Served budget (R.told reader.old) (R.told reader.new)
         (W.held writer.old) (W.held writer.new) (J.kept journal.new)) }
     ensures err { OnErr result (Stopped (R.ends reader.old) (R.ends reader.new) (R.told reader.old)
@@ -296,26 +283,31 @@ pub fn serve_with<
     ensures read { IsErrOf result ServeStop.Read → R.failures reader.old < R.failures reader.new }
     ensures write { IsErrOf result ServeStop.Write → W.failures writer.old < W.failures writer.new }
     ensures ended { OnOk result (R.ends reader.old < R.ends reader.new) }
-    ensures devices { (R.at_first reader.new ≡ R.at_first reader.old)
-        × (W.at_first writer.new ≡ W.at_first writer.old) }
+    ensures devices { KeepFirsts R.at_first reader.old reader.new W.at_first writer.old writer.new }
 {
-    let mut crew = hands;
-    let mut pending = Pending::new(alloc)?;
-    let mut line = Line::new(alloc);
-    let mut held = Session::new(alloc);
+    let pending = Pending::new(alloc)?;
+    let line = Line::new(alloc);
+    let held = Session::new(alloc);
+    let mut workers = Workers { runtime, hands };
+    let mut serving = Serving {
+        session: held,
+        pending,
+        line,
+    };
     while serve_line_with(
-        runtime,
         alloc,
+        &mut workers,
         reader,
         writer,
-        &mut held,
+        &mut serving,
         journal,
-        &mut pending,
-        &mut line,
-        &mut crew,
         budget,
     )? {}
-    Ok(crew)
+    let Workers {
+        runtime: _runtime,
+        hands,
+    } = workers;
+    Ok(hands)
 }
 
 /// Serves as `serve_here` does, by one thread for each hand, one of which is the caller's. Each hand is kept over all
@@ -331,10 +323,8 @@ pub fn serve<H: LoadRules + Send + Drop, T: Threads + Wait + Sync, R: Input, W: 
     hands: Vec<H>,
     budget: u64,
 ) -> Result<(Vec<H>, Journal), ServeStop>
-    requires { (1 ≤ length hands.items) × (length hands.items ≤ 16) }
-    ensures hands { IfOk result (λ done. length done.0.items ≡ length hands.items) }
-    ensures counted { IfOk result (λ done. total H.turns done.0.items ≡ total H.turns hands.items
-        + turns_of done.1.items) }
+    requires { IsHandCount (length hands.items) }
+    ensures hands { IfOk result (λ done. ReturnsHands H.turns hands done.0 done.1.items) }
     ensures ok { IfOk result (λ done. Served budget (R.told reader.old) (R.told reader.new)
         (W.held writer.old) (W.held writer.new) done.1.items) }
     ensures err { OnErr result (Stopped (R.ends reader.old) (R.ends reader.new) (R.told reader.old)
@@ -342,8 +332,7 @@ pub fn serve<H: LoadRules + Send + Drop, T: Threads + Wait + Sync, R: Input, W: 
     ensures read { IsErrOf result ServeStop.Read → R.failures reader.old < R.failures reader.new }
     ensures write { IsErrOf result ServeStop.Write → W.failures writer.old < W.failures writer.new }
     ensures ended { OnOk result (R.ends reader.old < R.ends reader.new) }
-    ensures devices { (R.at_first reader.new ≡ R.at_first reader.old)
-        × (W.at_first writer.new ≡ W.at_first writer.old) }
+    ensures devices { KeepFirsts R.at_first reader.old reader.new W.at_first writer.old writer.new }
 {
     let mut journal = Vec::new(alloc);
     let back = serve_with(runtime, alloc, reader, writer, hands, budget, &mut journal)?;
@@ -399,9 +388,16 @@ fn events_of<'a>(matches: &'a ArgMatches<'_>) -> Option<&'a str> {
     }
 }
 
+// What the words ask of serving: by how many threads it evaluates, and whether it writes the journal at the end.
+#[derive(Drop)]
+struct ServeOptions {
+    count: usize,
+    wants_runs: bool,
+}
+
 // Returns how many workers the words ask for.
 fn workers_of(matches: &ArgMatches<'_>) -> usize
-    ensures { (1 ≤ result) × (result ≤ 16) }
+    ensures { IsHandCount result }
 {
     let told = match matches.subcommand() {
         Some((_, run)) => run.get_one::<u8>("workers").unwrap_or(1),
@@ -449,15 +445,14 @@ fn serve_lines<T: Threads + Wait + Sync, R: Input, W: Output, J: Runs>(
     writer: &mut W,
     journal: &mut J,
 ) -> Result<(), ServeStop>
-    requires count { (1 ≤ count) × (count ≤ 16) }
+    requires count { IsHandCount count }
     requires none { J.kept journal.old ≡ [] }
     ensures ok { OnOk result (Served BUDGET (R.told reader.old) (R.told reader.new)
         (W.held writer.old) (W.held writer.new) (J.kept journal.new)) }
     ensures err { OnErr result (Stopped (R.ends reader.old) (R.ends reader.new) (R.told reader.old)
         (R.told reader.new) (W.held writer.old) (W.held writer.new)) }
     ensures ended { OnOk result (R.ends reader.old < R.ends reader.new) }
-    ensures devices { (R.at_first reader.new ≡ R.at_first reader.old)
-        × (W.at_first writer.new ≡ W.at_first writer.old) }
+    ensures devices { KeepFirsts R.at_first reader.old reader.new W.at_first writer.old writer.new }
 {
     if count == 1 {
         return serve_into(alloc, reader, writer, BUDGET, journal);
@@ -477,7 +472,7 @@ fn serve_to<T: Threads + Wait + Sync, R: Input, W: Output, E: Write, J: Runs>(
     errors: &mut E,
     journal: &mut J,
 ) -> u8
-    requires count { (1 ≤ count) × (count ≤ 16) }
+    requires count { IsHandCount count }
     requires none { J.kept journal.old ≡ [] }
     ensures served { result ≡ 0 → (journal : List Run) × Served BUDGET (R.told reader.old)
         (R.told reader.new) (W.held writer.old) (W.held writer.new) journal }
@@ -485,8 +480,7 @@ fn serve_to<T: Threads + Wait + Sync, R: Input, W: Output, E: Write, J: Runs>(
     ensures stopped { result ≡ 3 → Stopped (R.ends reader.old) (R.ends reader.new)
         (R.told reader.old) (R.told reader.new) (W.held writer.old) (W.held writer.new) }
     ensures status { (result ≡ 0) ⊎ (result ≡ 3) }
-    ensures devices { (R.at_first reader.new ≡ R.at_first reader.old)
-        × (W.at_first writer.new ≡ W.at_first writer.old) }
+    ensures devices { KeepFirsts R.at_first reader.old reader.new W.at_first writer.old writer.new }
 {
     match serve_lines(runtime, alloc, count, reader, writer, journal) {
         Ok(()) => 0,
@@ -516,15 +510,14 @@ fn serve_and_tell<T: Threads + Wait + Sync, R: Input, W: Output, E: Write>(
     writer: &mut W,
     errors: &mut E,
 ) -> u8
-    requires { (1 ≤ count) × (count ≤ 16) }
+    requires { IsHandCount count }
     ensures served { result ≡ 0 → (journal : List Run) × Served BUDGET (R.told reader.old)
         (R.told reader.new) (W.held writer.old) (W.held writer.new) journal }
     ensures ended { result ≡ 0 → R.ends reader.old < R.ends reader.new }
     ensures stopped { result ≡ 3 → Stopped (R.ends reader.old) (R.ends reader.new)
         (R.told reader.old) (R.told reader.new) (W.held writer.old) (W.held writer.new) }
     ensures status { (result ≡ 0) ⊎ (result ≡ 3) }
-    ensures devices { (R.at_first reader.new ≡ R.at_first reader.old)
-        × (W.at_first writer.new ≡ W.at_first writer.old) }
+    ensures devices { KeepFirsts R.at_first reader.old reader.new W.at_first writer.old writer.new }
 {
     let mut journal: Vec<Run> = Vec::new(alloc);
     let status = serve_to(runtime, alloc, count, reader, writer, errors, &mut journal);
@@ -540,15 +533,14 @@ fn serve_alone<T: Threads + Wait + Sync, R: Input, W: Output, E: Write>(
     writer: &mut W,
     errors: &mut E,
 ) -> u8
-    requires { (1 ≤ count) × (count ≤ 16) }
+    requires { IsHandCount count }
     ensures served { result ≡ 0 → (journal : List Run) × Served BUDGET (R.told reader.old)
         (R.told reader.new) (W.held writer.old) (W.held writer.new) journal }
     ensures ended { result ≡ 0 → R.ends reader.old < R.ends reader.new }
     ensures stopped { result ≡ 3 → Stopped (R.ends reader.old) (R.ends reader.new)
         (R.told reader.old) (R.told reader.new) (W.held writer.old) (W.held writer.new) }
     ensures status { (result ≡ 0) ⊎ (result ≡ 3) }
-    ensures devices { (R.at_first reader.new ≡ R.at_first reader.old)
-        × (W.at_first writer.new ≡ W.at_first writer.old) }
+    ensures devices { KeepFirsts R.at_first reader.old reader.new W.at_first writer.old writer.new }
 {
     let mut runs = GhostJournal::new();
     serve_to(runtime, alloc, count, reader, writer, errors, &mut runs)
@@ -561,29 +553,28 @@ fn tell_failure<E: Write>(errors: &mut E, has_failed: bool) {
     }
 }
 
-// Serves with events to a file, and returns the exit status. With `wants_runs` it writes the journal too.
+// Serves with events to a file, and returns the exit status. It writes the journal too if the options ask for it.
 fn serve_events<T: Threads + Wait + Sync, R: Input, W: Output, E: Write, F: Write + Drop>(
     runtime: &T,
     alloc: Global,
-    count: usize,
-    wants_runs: bool,
+    options: &ServeOptions,
     file: F,
     reader: &mut R,
     writer: &mut W,
     errors: &mut E,
 ) -> u8
-    requires { (1 ≤ count) × (count ≤ 16) }
+    requires { IsHandCount options.now.count }
     ensures served { result ≡ 0 → (journal : List Run) × Served BUDGET (R.told reader.old)
         (R.told reader.new) (W.held writer.old) (W.held writer.new) journal }
     ensures ended { result ≡ 0 → R.ends reader.old < R.ends reader.new }
     ensures stopped { result ≡ 3 → Stopped (R.ends reader.old) (R.ends reader.new)
         (R.told reader.old) (R.told reader.new) (W.held writer.old) (W.held writer.new) }
     ensures status { (result ≡ 0) ⊎ (result ≡ 3) }
-    ensures devices { (R.at_first reader.new ≡ R.at_first reader.old)
-        × (W.at_first writer.new ≡ W.at_first writer.old) }
+    ensures devices { KeepFirsts R.at_first reader.old reader.new W.at_first writer.old writer.new }
 {
+    let count = options.count;
     let events = Events::new(alloc, WriterOutput::new(file));
-    if wants_runs {
+    if options.wants_runs {
         let runs: Vec<Run> = Vec::new(alloc);
         let mut journal = EventJournal::new(events, runs);
         let status = serve_to(runtime, alloc, count, reader, writer, errors, &mut journal);
@@ -621,19 +612,18 @@ pub fn command<T: Threads + Wait + Sync + Files, S: AsStr, R: Input, W: Output, 
     ensures bad_words { result ≡ 2 → (R.told reader.new ≡ R.told reader.old)
         × (W.held writer.new ≡ W.held writer.old) }
     ensures status { (result ≡ 0) ⊎ (result ≡ 2) ⊎ (result ≡ 3) }
-    ensures devices { (R.at_first reader.new ≡ R.at_first reader.old)
-        × (W.at_first writer.new ≡ W.at_first writer.old) }
+    ensures devices { KeepFirsts R.at_first reader.old reader.new W.at_first writer.old writer.new }
 {
     match read_words(alloc, words) {
         Ok(matches) => {
-            let count = workers_of(&matches);
-            let wants_runs = wants_runs(&matches);
+            let options = ServeOptions {
+                count: workers_of(&matches),
+                wants_runs: wants_runs(&matches),
+            };
             if let Some(path) = events_of(&matches) {
                 return match fs::create(runtime, path) {
                     Ok(file) => {
-                        serve_events(
-                            runtime, alloc, count, wants_runs, file, reader, writer, errors,
-                        )
+                        serve_events(runtime, alloc, &options, file, reader, writer, errors)
                     }
                     Err(error) => {
                         let _ = writeln!(errors, "error: {path}: {error}");
@@ -641,10 +631,10 @@ pub fn command<T: Threads + Wait + Sync + Files, S: AsStr, R: Input, W: Output, 
                     }
                 };
             }
-            if wants_runs {
-                return serve_and_tell(runtime, alloc, count, reader, writer, errors);
+            if options.wants_runs {
+                return serve_and_tell(runtime, alloc, options.count, reader, writer, errors);
             }
-            serve_alone(runtime, alloc, count, reader, writer, errors)
+            serve_alone(runtime, alloc, options.count, reader, writer, errors)
         }
         Err(error) => {
             if error.kind() == ErrorKind::OutOfMemory {

@@ -1,24 +1,21 @@
 //! The session: the present files with the graph of what was found out about them, their edits, and the replies to
 //! lines.
-ghost use Rattle.std.specs.Prelude.{◌≡◌, ◌≤◌, ◌+◌, ◌++◌, ◌∷◌, [], Ok, IfOk, OnOk, OnErr, length, string_bytes, List, ℕ, option_and_then, option_map, codes as text_codes, false};
+ghost use Rattle.std.specs.Prelude.{◌≡◌, ◌≤◌, ◌+◌, ◌++◌, ◌∷◌, [], IfOk, OnOk, OnErr, length, string_bytes, List, ℕ, option_and_then, option_map, codes as text_codes, false};
 ghost use Rattle.serde_json.specs.View.{view as json_view};
 ghost use Rattle.serde_json.specs.Written.{compact_text, has_float};
 ghost use Rattle.board.specs.Rule.{total};
 ghost use Rattle.engine_semantics.specs.Graph.{MarksDirty};
 ghost use Rattle.node.specs.Graphs.{record_at, IsTouched};
-ghost use Rattle.functions.specs.Next.{next};
-ghost use Rattle.keys.specs.Leaves.{read};
 ghost use Rattle.round_nodes.specs.TurnCounts.{turns_of};
-ghost use Rattle.round.specs.Call.{Calls};
 ghost use Rattle.base_lines.specs.Lines.{HoldsLine};
 ghost use Rattle.loader.specs.Answers as answers;
-ghost use Rattle.loader.specs.Effects.{AreSettled, Performs, StopsAfter, StopsRequest, evaluations, request_effect, reply_roots};
+ghost use Rattle.loader.specs.Effects.{StopsAfter, StopsRequest};
+ghost use Rattle.loader.specs.RequestCalls.{AreReplyRoots, CallsKeys, IsAccepted, IsHandCount, IsReplyTo, ReturnsHands, RunsEvaluations, RunsRequest, SettlesAccepted, SettlesKeys, SettlesReply};
 ghost use Rattle.loader.specs.State as state;
-ghost use Rattle.loader.specs.Sessions.{SessionView, state_of, files_of, paths_of, IsConsistent};
+ghost use Rattle.loader.specs.Sessions.{SessionView, state_of, paths_of, IsConsistent};
 ghost use Rattle.loader.specs.LineAnswers.{AddsLine, Begins, IsOneMore};
 ghost use Rattle.loader_commands.specs.View.{edit_seen, request_seen};
 ghost use Rattle.loader_commands.specs.Commands as commands;
-ghost use Rattle.loader_commands.specs.Refusals.{request_refusal};
 
 use crate::journal::Runs;
 use crate::request_answers::{later_roots, reply_text, roots_of};
@@ -147,15 +144,9 @@ impl Session {
     /// graph that is consistent stays so, and each run is justified. The files stay as they are, and even after a stop
     /// a later request gets the reply that an evaluation from scratch gives.
     pub fn request(&mut self, request: &Request<'_>, budget: u64) -> Result<Reply, Stop>
-        ensures text { IfOk result
-            (λ reply. answers.Tells (answers.IsRequestAnswer (request_seen request.now)
-            (files_of self.old)) (string_bytes reply.text)) }
-        ensures held { OnOk result (request_refusal (request_seen request.now) ≡ None → AreSettled
-            (files_of self.old) (reply_roots (request_seen request.now) (files_of self.old))
-            self.new.graph) }
-        ensures moves { IfOk result
-            (λ reply. Performs (request_effect (request_seen request.now) (state_of self.old))
-            self.old self.new reply.runs.items) }
+        ensures text { IfOk result (λ reply. IsReplyTo request.now self.old reply) }
+        ensures held { OnOk result (SettlesAccepted request.now self.old self.new) }
+        ensures moves { IfOk result (λ reply. RunsRequest request.now self.old self.new reply) }
         ensures turns { IfOk result (λ reply. turns_of reply.runs.items ≤ budget) }
         ensures stopped { OnErr result (StopsRequest (request_seen request.now) self.old self.new) }
         ensures history { (self.new.began ≡ self.old.began) × (self.new.edits ≡ self.old.edits) }
@@ -173,15 +164,10 @@ impl Session {
 
     // Replies to a request that is not refused, as `request` does.
     fn reply_to(&mut self, request: &Request<'_>, budget: u64) -> Result<Reply, Stop>
-        requires { request_refusal (request_seen request.now) ≡ None }
-        ensures text { IfOk result
-            (λ reply. answers.Tells (answers.IsRequestAnswer (request_seen request.now)
-            (files_of self.old)) (string_bytes reply.text)) }
-        ensures held { OnOk result (AreSettled (files_of self.old)
-            (reply_roots (request_seen request.now) (files_of self.old)) self.new.graph) }
-        ensures moves { IfOk result
-            (λ reply. Performs (request_effect (request_seen request.now) (state_of self.old))
-            self.old self.new reply.runs.items) }
+        requires { IsAccepted request.now }
+        ensures text { IfOk result (λ reply. IsReplyTo request.now self.old reply) }
+        ensures held { OnOk result (SettlesReply request.now self.old self.new) }
+        ensures moves { IfOk result (λ reply. RunsRequest request.now self.old self.new reply) }
         ensures turns { IfOk result (λ reply. turns_of reply.runs.items ≤ budget) }
         ensures stopped { OnErr result (StopsRequest (request_seen request.now) self.old self.new) }
         ensures history { (self.new.began ≡ self.old.began) × (self.new.edits ≡ self.old.edits) }
@@ -204,20 +190,11 @@ impl Session {
         hands: Vec<R>,
         budget: u64,
     ) -> Result<(Vec<R>, Reply), Stop>
-        requires { (1 ≤ length hands.items) × (length hands.items ≤ 16) }
-        ensures hands { IfOk result (λ done. length done.0.items ≡ length hands.items) }
-        ensures counted { IfOk result
-            (λ done. total R.turns done.0.items ≡ total R.turns hands.items
-            + turns_of done.1.runs.items) }
-        ensures text { IfOk result
-            (λ done. answers.Tells (answers.IsRequestAnswer (request_seen request.now)
-            (files_of self.old)) (string_bytes done.1.text)) }
-        ensures held { OnOk result (request_refusal (request_seen request.now) ≡ None → AreSettled
-            (files_of self.old) (reply_roots (request_seen request.now) (files_of self.old))
-            self.new.graph) }
-        ensures moves { IfOk result
-            (λ done. Performs (request_effect (request_seen request.now) (state_of self.old))
-            self.old self.new done.1.runs.items) }
+        requires { IsHandCount (length hands.items) }
+        ensures hands { IfOk result (λ done. ReturnsHands R.turns hands done.0 done.1.runs.items) }
+        ensures text { IfOk result (λ done. IsReplyTo request.now self.old done.1) }
+        ensures held { OnOk result (SettlesAccepted request.now self.old self.new) }
+        ensures moves { IfOk result (λ done. RunsRequest request.now self.old self.new done.1) }
         ensures turns { IfOk result (λ done. turns_of done.1.runs.items ≤ budget) }
         ensures stopped { OnErr result (StopsRequest (request_seen request.now) self.old self.new) }
         ensures history { (self.new.began ≡ self.old.began) × (self.new.edits ≡ self.old.edits) }
@@ -242,20 +219,11 @@ impl Session {
         hands: Vec<R>,
         budget: u64,
     ) -> Result<(Vec<R>, Reply), Stop>
-        requires hands { (1 ≤ length hands.items) × (length hands.items ≤ 16) }
-        requires accepted { request_refusal (request_seen request.now) ≡ None }
-        ensures hands { IfOk result (λ done. length done.0.items ≡ length hands.items) }
-        ensures counted { IfOk result
-            (λ done. total R.turns done.0.items ≡ total R.turns hands.items
-            + turns_of done.1.runs.items) }
-        ensures text { IfOk result
-            (λ done. answers.Tells (answers.IsRequestAnswer (request_seen request.now)
-            (files_of self.old)) (string_bytes done.1.text)) }
-        ensures held { OnOk result (AreSettled (files_of self.old)
-            (reply_roots (request_seen request.now) (files_of self.old)) self.new.graph) }
-        ensures moves { IfOk result
-            (λ done. Performs (request_effect (request_seen request.now) (state_of self.old))
-            self.old self.new done.1.runs.items) }
+        requires { IsHandCount (length hands.items) × IsAccepted request.now }
+        ensures hands { IfOk result (λ done. ReturnsHands R.turns hands done.0 done.1.runs.items) }
+        ensures text { IfOk result (λ done. IsReplyTo request.now self.old done.1) }
+        ensures held { OnOk result (SettlesReply request.now self.old self.new) }
+        ensures moves { IfOk result (λ done. RunsRequest request.now self.old self.new done.1) }
         ensures turns { IfOk result (λ done. turns_of done.1.runs.items ≤ budget) }
         ensures stopped { OnErr result (StopsRequest (request_seen request.now) self.old self.new) }
         ensures history { (self.new.began ≡ self.old.began) × (self.new.edits ≡ self.old.edits) }
@@ -275,13 +243,9 @@ impl Session {
         request: &Request<'_>,
         budget: u64,
     ) -> Result<(Vec<Key>, Vec<Run>), Stop>
-        ensures roots { IfOk result (λ done. done.0.items ≡ reply_roots (request_seen request.now)
-            (files_of self.old)) }
-        ensures held { IfOk result
-            (λ done. AreSettled (files_of self.old) done.0.items self.new.graph) }
-        ensures moves { IfOk result
-            (λ done. Performs (evaluations (request_seen request.now) (state_of self.old)) self.old
-            self.new done.1.items) }
+        ensures roots { IfOk result (λ done. AreReplyRoots request.now self.old done.0.items) }
+        ensures held { IfOk result (λ done. SettlesKeys done.0.items self.old self.new) }
+        ensures moves { IfOk result (λ done. RunsEvaluations request.now self.old self.new done.1) }
         ensures turns { IfOk result (λ done. turns_of done.1.items ≤ budget) }
         ensures stopped { OnErr result (StopsRequest (request_seen request.now) self.old self.new) }
         ensures history { (self.new.began ≡ self.old.began) × (self.new.edits ≡ self.old.edits) }
@@ -307,18 +271,11 @@ impl Session {
         hands: Vec<R>,
         budget: u64,
     ) -> Result<(Vec<R>, Vec<Key>, Vec<Run>), Stop>
-        requires { (1 ≤ length hands.items) × (length hands.items ≤ 16) }
-        ensures hands { IfOk result (λ done. length done.0.items ≡ length hands.items) }
-        ensures counted { IfOk result
-            (λ done. total R.turns done.0.items ≡ total R.turns hands.items
-            + turns_of done.2.items) }
-        ensures roots { IfOk result (λ done. done.1.items ≡ reply_roots (request_seen request.now)
-            (files_of self.old)) }
-        ensures held { IfOk result
-            (λ done. AreSettled (files_of self.old) done.1.items self.new.graph) }
-        ensures moves { IfOk result
-            (λ done. Performs (evaluations (request_seen request.now) (state_of self.old)) self.old
-            self.new done.2.items) }
+        requires { IsHandCount (length hands.items) }
+        ensures hands { IfOk result (λ done. ReturnsHands R.turns hands done.0 done.2.items) }
+        ensures roots { IfOk result (λ done. AreReplyRoots request.now self.old done.1.items) }
+        ensures held { IfOk result (λ done. SettlesKeys done.1.items self.old self.new) }
+        ensures moves { IfOk result (λ done. RunsEvaluations request.now self.old self.new done.2) }
         ensures turns { IfOk result (λ done. turns_of done.2.items ≤ budget) }
         ensures stopped { OnErr result (StopsRequest (request_seen request.now) self.old self.new) }
         ensures history { (self.new.began ≡ self.old.began) × (self.new.edits ≡ self.old.edits) }
@@ -339,11 +296,9 @@ impl Session {
     // Evaluates keys over the graph, in at most `budget` turns, and returns what that ran. Each of them that has a
     // value for the present files then has it in the graph.
     fn settle(&mut self, roots: &[Key], budget: u64) -> Result<Vec<Run>, Stop>
-        ensures law { IfOk result
-            (λ runs. Calls next (read (files_of self.old)) roots.now self.old.graph self.new.graph
-            (Ok runs.items)) }
+        ensures law { IfOk result (λ runs. CallsKeys roots.now self.old self.new runs.items) }
         ensures turns { IfOk result (λ runs. turns_of runs.items ≤ budget) }
-        ensures held { OnOk result (AreSettled (files_of self.old) roots.now self.new.graph) }
+        ensures held { OnOk result (SettlesKeys roots.now self.old self.new) }
         ensures stopped { OnErr result (StopsAfter roots.now self.old self.new) }
         ensures history { (self.new.began ≡ self.old.began) × (self.new.edits ≡ self.old.edits) }
         ensures version { self.new.graph.version ≡ self.old.graph.version }
@@ -369,16 +324,11 @@ impl Session {
         hands: Vec<R>,
         budget: u64,
     ) -> Result<(Vec<R>, Vec<Run>), Stop>
-        requires { (1 ≤ length hands.items) × (length hands.items ≤ 16) }
-        ensures hands { IfOk result (λ done. length done.0.items ≡ length hands.items) }
-        ensures counted { IfOk result
-            (λ done. total R.turns done.0.items ≡ total R.turns hands.items
-            + turns_of done.1.items) }
-        ensures law { IfOk result
-            (λ done. Calls next (read (files_of self.old)) roots.now self.old.graph self.new.graph
-            (Ok done.1.items)) }
+        requires { IsHandCount (length hands.items) }
+        ensures hands { IfOk result (λ done. ReturnsHands R.turns hands done.0 done.1.items) }
+        ensures law { IfOk result (λ done. CallsKeys roots.now self.old self.new done.1.items) }
         ensures turns { IfOk result (λ done. turns_of done.1.items ≤ budget) }
-        ensures held { OnOk result (AreSettled (files_of self.old) roots.now self.new.graph) }
+        ensures held { OnOk result (SettlesKeys roots.now self.old self.new) }
         ensures stopped { OnErr result (StopsAfter roots.now self.old self.new) }
         ensures history { (self.new.began ≡ self.old.began) × (self.new.edits ≡ self.old.edits) }
         ensures version { self.new.graph.version ≡ self.old.graph.version }
@@ -669,7 +619,7 @@ pub fn reply_to_line_with<H: LoadRules + Send + Drop, T: Threads + Wait + Sync, 
     hands: Vec<H>,
     budget: u64,
 ) -> Result<(Vec<H>, String), Stop>
-    requires { (1 ≤ length hands.items) × (length hands.items ≤ 16) }
+    requires { IsHandCount (length hands.items) }
     ensures hands { IfOk result (λ done. length done.0.items ≡ length hands.items) }
     ensures counted { IfOk result (λ done. total H.turns done.0.items
         + turns_of (J.kept journal.old) ≡ total H.turns hands.items

@@ -4,7 +4,7 @@ use Rattle.board.specs.declared.board.Hand.{Hand}
 use Rattle.pool.specs.Crews.{SameCrew, SameOwn}
 use Rattle.pool.specs.Serving.{made_in}
 use Rattle.pool.specs.declared.workers.Workers.{Workers}
-use Rattle.pool.specs.declared.own.Own.{Own}
+use Rattle.pool.specs.declared.host_state.Own.{Own}
 
 pub crew_then : {R S : Type 0} (turns : R → ℕ) (a b c : Workers R S) → SameCrew turns a b → SameCrew turns b c → SameCrew turns a c
 crew_then turns a b c x y = let s = x.sized in let t = y.sized in let u = x.counted in let v = y.counted in record { sized = omega (arith, s, t); counted = omega (arith, u, v) }

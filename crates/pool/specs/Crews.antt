@@ -5,7 +5,7 @@ use Rattle.board.specs.Places.{IsHandAtRest}
 use Rattle.board.specs.Rule.{total}
 use Rattle.pool.specs.Serving.{made_in}
 use Rattle.pool.specs.declared.workers.Workers.{Workers}
-use Rattle.pool.specs.declared.own.Own.{Own}
+use Rattle.pool.specs.declared.host_state.Own.{Own}
 
 -- each worker is at this board, each of the others has a hand of it, and there is room for all of them and the host's
 -- own

@@ -1,24 +1,21 @@
 //! An evaluation by one thread for each hand, one of which is the caller's.
-ghost use Rattle.std.specs.Prelude.{◌≡◌, ◌+◌, ◌<◌, ◌≤◌, [], All, length, vec_capacity, IfOk, IfErr, IsErrOf, Ok, Err};
-ghost use Rattle.board.specs.Places.{IsNewHost, IsNewHand};
+ghost use Rattle.std.specs.Prelude.{◌≡◌, ◌+◌, ◌<◌, ◌≤◌, [], length, vec_capacity, IfOk};
 ghost use Rattle.board.specs.Rule.{total};
 ghost use Rattle.keys.specs.Leaves as leaves;
 ghost use Rattle.round_nodes.specs.TurnCounts.{turns_of};
+ghost use Rattle.pool.specs.Evaluations.{FollowsLaw, Stops, RootIsOpen, TurnIsLeft, HasBegun, HasEnded};
+ghost use Rattle.pool.specs.HostStates.{AreNewSeats};
 ghost use Rattle.pool.specs.Running.{HasRun};
-ghost use Rattle.round.specs.Call.{Calls, HasOpenRoot, HasTurnToMake};
-ghost use Rattle.round.specs.Here.{IsResting};
-ghost use Rattle.round.specs.Rounds.{round_view};
-ghost use Rattle.round.specs.Since.{IsTrueSinceSome};
-ghost use Rattle.round.specs.declared.stop.Stop.{Stop};
 
 use crate::board_close::close_board;
+use crate::context::{Context, Evaluation};
 use crate::first_turns::make_first_turns;
 use crate::host::host_loop;
+use crate::host_state::{HostState, Own, Seats, divide};
 use crate::notifier::Notifiers;
-use crate::own::{Own, divide};
-use crate::workers::{Workers, join_all};
+use crate::workers::join_all;
 use base_types::Memory;
-use board::{Board, Hand, Host, OpenError};
+use board::{Board, OpenError};
 use filetree::Tree;
 use keys::{Key, Rules};
 use node::Graph;
@@ -44,9 +41,7 @@ fn places_for(hands: usize) -> usize
 // What comes back from the scope of the workers.
 struct ScopeResult<R: Rules> {
     graph: Graph,
-    host: Host<R>,
-    rules: Vec<R>,
-    hands: Vec<Hand<R>>,
+    seats: Seats<R>,
     made: u64,
     ended: Result<Vec<Run>, Stop>,
 }
@@ -61,58 +56,39 @@ fn with_room<X>(alloc: Global, count: usize) -> Result<Vec<X>, Memory>
 // Evaluates by workers of the scope. None of them is still running at the end.
 fn host_and_join<'s, E, R: Rules + Send + Drop + 's, T: Threads + Wait + Sync>(
     scope: &Scope<'s, E>,
-    rt: &'s T,
+    context: &Context<'s, R, T>,
     alloc: Global,
-    board: &'s Board<R>,
-    bells: &'s Notifiers,
-    mut host: Host<R>,
-    hands: Vec<Hand<R>>,
-    rules: Vec<R>,
+    seats: Seats<R>,
     mut graph: Graph,
-    tree: &Tree,
-    entry: Snapshot<Graph>,
-    round: Round<R>,
-    first: u64,
-    budget: u64,
+    evaluation: Evaluation<R>,
 ) -> ScopeResult<R>
-    requires host { IsNewHost board.now.table.shared.table_id board.now.capacity
-        (length rules.items) host.seat }
-    requires hands { All (λ h. IsNewHand board.now.table.shared.table_id h.seat) hands.items
-        × (length hands.items ≡ length rules.items) }
-    requires some { 0 < length rules.items }
-    requires places { 0 < board.now.capacity }
-    requires rests { IsResting graph round (round_view round).roots first × (first ≤ budget) }
-    requires truth { IsTrueSinceSome R.next (leaves.read tree.now) (round_view round).roots
-        entry.value graph round.table }
-    ensures { HasRun R.next R.turns (leaves.read tree.now) board.now.table.shared.table_id
-        board.now.capacity (round_view round).roots entry.value first rules.items budget result }
+    requires seats { AreNewSeats context.now.board.now seats }
+    requires evaluation { HasBegun R.next (leaves.read context.now.tree.now) graph evaluation
+        context.now.budget }
+    ensures { HasRun R.next R.turns (leaves.read context.now.tree.now) context.now.board.now
+        evaluation seats.rules.items context.now.budget result }
 {
-    let workers = match with_room(alloc, rules.len()) {
+    let workers = match with_room(alloc, seats.rules.len()) {
         Ok(workers) => workers,
         Err(error) => {
             return ScopeResult {
                 graph,
-                host,
-                rules,
-                hands,
-                made: first,
+                seats,
+                made: evaluation.first,
                 ended: Err(Stop::Memory(error)),
             };
         }
     };
-    let (mut own, rules, hands) = divide(rules, hands, first);
-    let mut crew = Workers {
-        workers,
-        rules,
-        hands,
-    };
-    let ended = host_loop(
-        scope, rt, board, bells, &mut host, &mut crew, &mut own, &mut graph, tree, entry, round,
-        budget,
-    );
-    board.shut(&mut host);
-    bells.jobs.notify_all();
-    let (mut rules, mut hands) = join_all(rt, board, crew);
+    let mut state = divide(seats, workers, evaluation.first);
+    let ended = host_loop(scope, context, &mut state, &mut graph, evaluation);
+    let HostState {
+        mut host,
+        crew,
+        own,
+    } = state;
+    context.board.shut(&mut host);
+    context.notifiers.jobs.notify_all();
+    let (mut rules, mut hands) = join_all(context.rt, context.board, crew);
     let Own {
         rules: last,
         hand,
@@ -122,9 +98,7 @@ fn host_and_join<'s, E, R: Rules + Send + Drop + 's, T: Threads + Wait + Sync>(
     hands.push_reserved(hand);
     ScopeResult {
         graph,
-        host,
-        rules,
-        hands,
+        seats: Seats { host, hands, rules },
         made,
         ended,
     }
@@ -132,106 +106,74 @@ fn host_and_join<'s, E, R: Rules + Send + Drop + 's, T: Threads + Wait + Sync>(
 
 // Evaluates as `host_and_join` does, in a scope that ends when the last worker has.
 fn in_scope<R: Rules + Send + Drop, T: Threads + Wait + Sync>(
-    rt: &T,
+    context: &Context<'_, R, T>,
     alloc: Global,
-    board: &Board<R>,
-    bells: &Notifiers,
-    host: Host<R>,
-    hands: Vec<Hand<R>>,
-    rules: Vec<R>,
+    seats: Seats<R>,
     graph: Graph,
-    tree: &Tree,
-    entry: Snapshot<Graph>,
-    round: Round<R>,
-    first: u64,
-    budget: u64,
+    evaluation: Evaluation<R>,
 ) -> ScopeResult<R>
-    requires host { IsNewHost board.now.table.shared.table_id board.now.capacity
-        (length rules.items) host.seat }
-    requires hands { All (λ h. IsNewHand board.now.table.shared.table_id h.seat) hands.items
-        × (length hands.items ≡ length rules.items) }
-    requires some { 0 < length rules.items }
-    requires places { 0 < board.now.capacity }
-    requires rests { IsResting graph round (round_view round).roots first × (first ≤ budget) }
-    requires truth { IsTrueSinceSome R.next (leaves.read tree.now) (round_view round).roots
-        entry.value graph round.table }
-    ensures { HasRun R.next R.turns (leaves.read tree.now) board.now.table.shared.table_id
-        board.now.capacity (round_view round).roots entry.value first rules.items budget result }
+    requires seats { AreNewSeats context.now.board.now seats }
+    requires evaluation { HasBegun R.next (leaves.read context.now.tree.now) graph evaluation
+        context.now.budget }
+    ensures { HasRun R.next R.turns (leaves.read context.now.tree.now) context.now.board.now
+        evaluation seats.rules.items context.now.budget result }
 {
     thread::scope(
         thread::scope_env(),
-        rt,
+        context.rt,
         move |scope| -> ScopeResult<R>
-            requires host { IsNewHost board.now.table.shared.table_id board.now.capacity
-                (length rules.items) host.seat }
-            requires hands { All (λ h. IsNewHand board.now.table.shared.table_id h.seat) hands.items
-                × (length hands.items ≡ length rules.items) }
-            requires some { 0 < length rules.items }
-            requires places { 0 < board.now.capacity }
-            requires rests { IsResting graph round (round_view round).roots first × (first ≤
-                budget) }
-            requires truth { IsTrueSinceSome R.next (leaves.read tree.now) (round_view round).roots
-                entry.value graph round.table }
-            ensures { HasRun R.next R.turns (leaves.read tree.entry.now)
-                board.entry.now.table.shared.table_id board.entry.now.capacity
-                (round_view round).roots entry.value first rules.items budget result }
-        {
-            host_and_join(
-                scope, rt, alloc, board, bells, host, hands, rules, graph, tree, entry, round,
-                first, budget,
-            )
-        },
+            requires seats { AreNewSeats context.now.board.now seats }
+            requires evaluation { HasBegun R.next (leaves.read context.now.tree.now) graph
+                evaluation context.now.budget }
+            ensures { HasRun R.next R.turns (leaves.read context.entry.now.tree.now)
+                context.entry.now.board.now evaluation seats.rules.items
+                context.entry.now.budget result }
+        { host_and_join(scope, context, alloc, seats, graph, evaluation) },
     )
 }
 
-// Continues by workers an evaluation of which the first turns were made since the graph was the entry's.
+// Continues by workers an evaluation of which the first turns were made. There are rules for each hand.
 fn evaluate_with_workers<R: Rules + Send + Drop, T: Threads + Wait + Sync>(
     rt: &T,
     alloc: Global,
     graph: &mut Graph,
     tree: &Tree,
-    entry: Snapshot<Graph>,
-    round: Round<R>,
-    hands: Vec<R>,
-    first: u64,
+    evaluation: Evaluation<R>,
+    rules: Vec<R>,
     budget: u64,
 ) -> Result<(Vec<R>, Vec<Run>), Stop>
-    requires hands { (1 ≤ length hands.items) × (length hands.items ≤ 16) }
-    requires rests { IsResting graph.old round (round_view round).roots first × (first ≤ budget) }
-    requires truth { IsTrueSinceSome R.next (leaves.read tree.now) (round_view round).roots
-        entry.value graph.old round.table }
-    ensures law { IfOk result (λ done. Calls R.next (leaves.read tree.now) (round_view round).roots
-        entry.value graph.new (Ok done.1.items)) }
-    ensures stopped { IfErr result (λ e. Calls R.next (leaves.read tree.now) (round_view
-        round).roots entry.value graph.new (Err e)) }
-    ensures turns { IfOk result (λ done. first + total R.turns done.0.items
-        ≡ total R.turns hands.items + turns_of done.1.items) }
-    ensures hands { IfOk result (λ done. length done.0.items ≡ length hands.items) }
-    ensures within { IfOk result (λ done. turns_of done.1.items ≤ budget) }
-    ensures budget { IsErrOf result Stop.Budget → HasOpenRoot R.next (leaves.read tree.now)
-        (round_view round).roots entry.value graph.new }
-    ensures spent { IsErrOf result Stop.Budget → HasTurnToMake R.next (leaves.read tree.now)
-        (round_view round).roots entry.value graph.new }
+    requires hands { (1 ≤ length rules.items) × (length rules.items ≤ 16) }
+    requires evaluation { HasBegun R.next (leaves.read tree.now) graph.old evaluation budget }
+    ensures ended { HasEnded R.next (leaves.read tree.now) evaluation graph.new budget
+        result (λ done. done.1.items) }
+    ensures turns { IfOk result (λ done. evaluation.first + total R.turns done.0.items
+        ≡ total R.turns rules.items + turns_of done.1.items) }
+    ensures hands { IfOk result (λ done. length done.0.items ≡ length rules.items) }
 {
-    let (board, host, seats) = match Board::open(alloc, places_for(hands.len()), hands.len()) {
+    let (board, host, hands) = match Board::open(alloc, places_for(rules.len()), rules.len()) {
         Ok(made) => made,
         Err(OpenError::Memory(error)) => return Err(Stop::Memory(error)),
         Err(OpenError::Range) => unreachable!(),
     };
-    let bells = Notifiers::new();
+    let notifiers = Notifiers::new();
+    let context = Context {
+        rt,
+        board: &board,
+        notifiers: &notifiers,
+        tree,
+        budget,
+    };
+    let seats = Seats { host, hands, rules };
     let lent = mem::replace(graph, Graph::new(alloc));
     let ScopeResult {
         graph: after,
-        host,
-        rules,
-        hands: seats,
+        seats,
         made: _made,
         ended,
-    } = in_scope(
-        rt, alloc, &board, &bells, host, seats, hands, lent, tree, entry, round, first, budget,
-    );
+    } = in_scope(&context, alloc, seats, lent, evaluation);
     *graph = after;
-    let _back = close_board(board, host, seats);
+    let Seats { host, hands, rules } = seats;
+    let _back = close_board(board, host, hands);
     match ended {
         Err(stop) => Err(stop),
         Ok(runs) => Ok((rules, runs)),
@@ -256,18 +198,14 @@ pub fn evaluate<R: Rules + Send + Drop, T: Threads + Wait + Sync>(
     budget: u64,
 ) -> Result<(Vec<R>, Vec<Run>), Stop>
     requires { (1 ≤ length hands.items) × (length hands.items ≤ 16) }
-    ensures law { IfOk result (λ done. Calls R.next (leaves.read tree.now) roots.now graph.old
-        graph.new (Ok done.1.items)) }
-    ensures stopped { IfErr result (λ e. Calls R.next (leaves.read tree.now) roots.now graph.old
-        graph.new (Err e)) }
+    ensures law { FollowsLaw R.next (leaves.read tree.now) roots.now graph.old graph.new result }
+    ensures stopped { Stops R.next (leaves.read tree.now) roots.now graph.old graph.new result }
     ensures turns { IfOk result (λ done. total R.turns done.0.items ≡ total R.turns hands.items
         + turns_of done.1.items) }
     ensures hands { IfOk result (λ done. length done.0.items ≡ length hands.items) }
     ensures within { IfOk result (λ done. turns_of done.1.items ≤ budget) }
-    ensures budget { IsErrOf result Stop.Budget → HasOpenRoot R.next (leaves.read tree.now)
-        roots.now graph.old graph.new }
-    ensures spent { IsErrOf result Stop.Budget → HasTurnToMake R.next (leaves.read tree.now)
-        roots.now graph.old graph.new }
+    ensures budget { RootIsOpen R.next (leaves.read tree.now) roots.now graph.old graph.new result }
+    ensures spent { TurnIsLeft R.next (leaves.read tree.now) roots.now graph.old graph.new result }
 {
     let shared = share_all(alloc, roots)?;
     let entry = Snapshot::of(&*graph);
@@ -278,7 +216,12 @@ pub fn evaluate<R: Rules + Send + Drop, T: Threads + Wait + Sync>(
     let first = make_first_turns(&mut round, graph, tree, &mut own, roots, budget)?;
     hands.push_reserved(own);
     if has_ready(&round) {
-        return evaluate_with_workers(rt, alloc, graph, tree, entry, round, hands, first, budget);
+        let evaluation = Evaluation {
+            round,
+            before: entry,
+            first,
+        };
+        return evaluate_with_workers(rt, alloc, graph, tree, evaluation, hands, budget);
     }
     let runs = close_stall(round, graph)?;
     Ok((hands, runs))

@@ -3,11 +3,12 @@
 #![tactic(auto)]
 
 mod board_close;
+mod context;
 mod evaluations;
 mod first_turns;
 mod host;
+mod host_state;
 mod notifier;
-mod own;
 mod steps;
 mod worker;
 mod workers;

@@ -54,7 +54,7 @@ pub(crate) fn make_posted<R: Rules>(board: &Board<R>, hand: &mut Hand<R>, rules:
 pub(crate) fn worker_loop<R: Rules, W: Wait>(
     rt: &W,
     board: &Board<R>,
-    bells: &Notifiers,
+    notifiers: &Notifiers,
     mut hand: Hand<R>,
     mut rules: R,
 ) -> WorkerReturn<R>
@@ -63,14 +63,14 @@ pub(crate) fn worker_loop<R: Rules, W: Wait>(
     ensures counted { R.turns result.rules ≡ R.turns rules + made_in result.hand.seat.me.0.answers }
 {
     for _ in rt.forever() {
-        let heard = bells.jobs.epoch();
+        let heard = notifiers.jobs.epoch();
         if board.is_shut(&mut hand) {
             return WorkerReturn { rules, hand };
         }
         if make_posted(board, &mut hand, &mut rules) {
-            bells.turns.notify();
+            notifiers.turns.notify();
         } else {
-            bells.jobs.wait_past(rt, heard);
+            notifiers.jobs.wait_past(rt, heard);
         }
     }
     unreachable!()

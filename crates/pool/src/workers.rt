@@ -1,11 +1,12 @@
 //! The hands of a pool: those of workers, and those that are left for further ones.
 ghost use Rattle.std.specs.Prelude.{◌≡◌, ◌+◌, ◌<◌, ◌≤◌, All, length, OnOk, vec_capacity};
-ghost use Rattle.board.specs.Places.{IsHostAtRest, IsHandAtRest, IsNewHand};
+ghost use Rattle.board.specs.Places.{IsHandAtRest, IsNewHand};
 ghost use Rattle.board.specs.Rule.{total};
 ghost use Rattle.pool.specs.Crews.{IsCrew, SameCrew};
+ghost use Rattle.pool.specs.HostStates.{IsHostOf, AreNewHands};
 ghost use Rattle.pool.specs.Serving.{made_in, IsShutOnly};
 
-use crate::notifier::Notifiers;
+use crate::context::Context;
 use crate::worker::{WorkerPromise, WorkerReturn, worker_loop};
 use base_types::Memory;
 use board::{Board, Hand, Host};
@@ -25,22 +26,18 @@ pub(crate) struct Workers<'s, R: Rules> {
 // shut, and the hand is back.
 pub(crate) fn spawn_worker<'s, E, R: Rules + Send + Drop + 's, T: Wait + Sync>(
     scope: &Scope<'s, E>,
-    rt: &'s T,
-    board: &'s Board<R>,
-    bells: &'s Notifiers,
+    context: &Context<'s, R, T>,
     host: &mut Host<R>,
     crew: &mut Workers<'s, R>,
 ) -> Result<(), Memory>
-    requires host { IsHostAtRest board.now.table.shared.table_id host.old.seat }
-    requires crew { IsCrew board.now.table.shared.table_id crew.old }
-    requires new { All (λ h. IsNewHand board.now.table.shared.table_id h.seat)
-        crew.old.hands.items }
-    ensures host { IsHostAtRest board.now.table.shared.table_id host.new.seat
+    requires host { IsHostOf context.now.board.now host.old }
+    requires crew { IsCrew context.now.board.now.table.shared.table_id crew.old }
+    requires new { AreNewHands context.now.board.now crew.old.hands.items }
+    ensures host { IsHostOf context.now.board.now host.new
         × IsShutOnly host.old.seat.me.0 host.new.seat.me.0 }
-    ensures crew { IsCrew board.now.table.shared.table_id crew.new × SameCrew R.turns crew.old
-        crew.new }
-    ensures new { OnOk result (All (λ h. IsNewHand board.now.table.shared.table_id h.seat)
-        crew.new.hands.items) }
+    ensures crew { IsCrew context.now.board.now.table.shared.table_id crew.new
+        × SameCrew R.turns crew.old crew.new }
+    ensures new { OnOk result (AreNewHands context.now.board.now crew.new.hands.items) }
     ensures hired { length crew.new.workers.items ≤ length crew.old.workers.items + 1 }
 {
     let Some(own) = crew.rules.pop() else {
@@ -49,6 +46,13 @@ pub(crate) fn spawn_worker<'s, E, R: Rules + Send + Drop + 's, T: Wait + Sync>(
     let Some(hand) = crew.hands.pop() else {
         unreachable!()
     };
+    let Context {
+        rt,
+        board,
+        notifiers,
+        tree: _,
+        budget: _,
+    } = *context;
     let promise = WorkerPromise {
         board,
         given: Snapshot::of(&own),
@@ -60,7 +64,7 @@ pub(crate) fn spawn_worker<'s, E, R: Rules + Send + Drop + 's, T: Wait + Sync>(
             ensures seat { IsHandAtRest board.entry.now.table.shared.table_id result.hand.seat }
             ensures counted { R.turns result.rules ≡ R.turns own
                 + made_in result.hand.seat.me.0.answers }
-        { worker_loop(rt, board, bells, hand, own) },
+        { worker_loop(rt, board, notifiers, hand, own) },
     );
     match hired {
         Ok(worker) => {

@@ -1,11 +1,12 @@
 -- What readers know, what the keeper has published, and what it makes known.
-use Rattle.std.specs.Prelude.{◌≡◌, List}
+use Rattle.std.specs.Prelude.{◌≡◌, ◌⊎◌, ℕ, List}
 use Rattle.logbook.specs.Pages.{Book}
 use Rattle.shelf.specs.declared.publish.Publish.{Publish}
 use Rattle.shelf.specs.declared.reader.Reader.{Reader}
 use Rattle.shelf.specs.declared.reader.Told.{Told}
 use Rattle.shelf.specs.declared.keeper.Keeper.{Keeper}
 use Rattle.shelf.specs.Rules.{publishes_of}
+use Rattle.shelf.specs.Lists.{then_published}
 
 -- the prefix of the list that the reader has seen or learnt
 abbrev pub known_to : Reader → List Publish
@@ -22,6 +23,10 @@ shelf_read_by reader = reader.list.known.book
 -- the shelf that the keeper makes known
 abbrev pub shelf_told_of : Told → Book
 shelf_told_of told = told.list.known.book
+
+-- the list is as it was, or has this publish at its end
+abbrev pub IsKeptOrHas : List Publish → ℕ → List (List ℕ × List ℕ) → List Publish → Type 0
+IsKeptOrHas before version entries after = (after ≡ before) ⊎ (after ≡ then_published before version entries)
 
 module _ {R : Type 0} where
   -- what was published, and what was taken up though the call failed, in order

@@ -65,3 +65,49 @@ one_place_more fs i d n before after lt named new updates so q = by (same_text n
         ∙ sym (or_none (first_named q (take i fs)))
         ∙ ap (λ b. or_else (first_named q (take i fs)) (cond b (Some f) None)) (sym miss)
         ∙ sym (next q fs i d lt)
+
+-- a name that has a place keeps it
+pub same_places : (fs : List Fn) (i : ℕ) (d : Fn) (n : List ℕ) (places : List ℕ → Option ℕ) → i < length fs → n ≡ (get_or fs i d).name → is_some (places n) ≡ true
+    → ((q : List ℕ) → is_some (places q) ≡ is_some (first_named q (take i fs))) → (q : List ℕ) → first_named q (take i fs) ≡ first_named q (take (i + 1) fs)
+same_places fs i d n places lt named there known q = by (same_text n q) refl
+  where
+    f : Fn
+    f = get_or fs i d
+
+    absorbs : (o : Option Fn) → is_some o ≡ true → o ≡ or_else o (first_named q (f ∷ []))
+    absorbs (Some g) e = refl
+    absorbs None e = cc
+
+    by : (b : Bool) → same_text n q ≡ b → first_named q (take i fs) ≡ first_named q (take (i + 1) fs)
+    by true is =
+        let same : n ≡ q = (bytes_decides n q).0 is in
+        absorbs (first_named q (take i fs)) (sym (known q) ∙ ap (λ x. is_some (places x)) (sym same) ∙ there) ∙ sym (next q fs i d lt)
+    by false is =
+        let miss : same_text q f.name ≡ false = other q f.name (same_text q f.name) (ap (λ x. same_text x q) (sym named) ∙ is) refl in
+        sym (or_none (first_named q (take i fs))) ∙ ap (λ b. or_else (first_named q (take i fs)) (cond b (Some f) None)) (sym miss) ∙ sym (next q fs i d lt)
+
+-- with the place of one name more, the names that have a place are those of the functions so far
+pub one_more_known : (fs : List Fn) (i : ℕ) (d : Fn) (n : List ℕ) (before after : List ℕ → Option ℕ) → i < length fs → n ≡ (get_or fs i d).name → ((q : List ℕ) → after q ≡ cond (same_text n q) (Some i) (before q))
+    → ((q : List ℕ) → is_some (before q) ≡ is_some (first_named q (take i fs))) → (q : List ℕ) → is_some (after q) ≡ is_some (first_named q (take (i + 1) fs))
+one_more_known fs i d n before after lt named updates known q = by (same_text n q) refl
+  where
+    f : Fn
+    f = get_or fs i d
+
+    ends : (o : Option Fn) → true ≡ is_some (or_else o (Some f))
+    ends (Some g) = refl
+    ends None = refl
+
+    by : (b : Bool) → same_text n q ≡ b → is_some (after q) ≡ is_some (first_named q (take (i + 1) fs))
+    by true is =
+        let same : n ≡ q = (bytes_decides n q).0 is in
+        let hit : same_text q f.name ≡ true = (bytes_decides q f.name).1 (sym same ∙ named) in
+        ap is_some (updates q ∙ ap (λ b. cond b (Some i) (before q)) is)
+        ∙ ends (first_named q (take i fs))
+        ∙ ap (λ b. is_some (or_else (first_named q (take i fs)) (cond b (Some f) None))) (sym hit)
+        ∙ ap is_some (sym (next q fs i d lt))
+    by false is =
+        let miss : same_text q f.name ≡ false = other q f.name (same_text q f.name) (ap (λ x. same_text x q) (sym named) ∙ is) refl in
+        ap is_some (updates q ∙ ap (λ b. cond b (Some i) (before q)) is)
+        ∙ known q
+        ∙ ap is_some (sym (or_none (first_named q (take i fs))) ∙ ap (λ b. or_else (first_named q (take i fs)) (cond b (Some f) None)) (sym miss) ∙ sym (next q fs i d lt))

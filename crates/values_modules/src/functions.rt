@@ -73,7 +73,7 @@ fn function_at<'a>(functions: &'a [Function], place: Option<usize>) -> Option<&'
     }
 }
 
-// Makes the table of the names of many functions, if each name occurs once.
+// Makes the table of the names of many functions, each with the place of its first function.
 fn index_of(alloc: Global, functions: &[Function]) -> Result<Option<Index>, Memory>
     ensures { IfOk result
         (λ o. IfSome o (λ i. (x : List ℕ) → function_at functions.now (get same_text i.places x)
@@ -86,7 +86,7 @@ fn index_of(alloc: Global, functions: &[Function]) -> Result<Option<Index>, Memo
     for i in 0..functions.len() {
         let name = Bytes::of_text(functions[i].def().name.share()?);
         if places.contains_key(&name) {
-            return Ok(None);
+            continue;
         }
         places.insert(name, i)?;
     }
@@ -116,7 +116,7 @@ impl Functions {
         self.items.as_slice()
     }
 
-    /// Returns the first function with a name. Where there are many functions, whose names differ, it takes no search.
+    /// Returns the first function with a name. Where there are many functions it takes no search.
     pub fn function_named(&self, name: &Bytes) -> Option<&Function>
         ensures { option_map (λ f. f.now) result ≡ first_named name.now self.now }
     {

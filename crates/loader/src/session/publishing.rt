@@ -1,15 +1,15 @@
 //! Requests whose packages are published for readers of other threads.
-ghost use Rattle.std.specs.Prelude.{◌≡◌, ◌≤◌, ◌⊎◌, None, IfOk, OnOk, OnErr, string_bytes};
+ghost use Rattle.std.specs.Prelude.{◌≡◌, ◌≤◌, None, IfOk, OnOk, OnErr};
 ghost use Rattle.round_nodes.specs.TurnCounts.{turns_of};
 ghost use Rattle.loader_commands.specs.Commands.{load};
 ghost use Rattle.loader_commands.specs.Refusals.{request_refusal};
 ghost use Rattle.loader_commands.specs.View.{request_seen, texts_seen};
 ghost use Rattle.shelf.specs.Lists.{version_of};
-ghost use Rattle.shelf.specs.Shelves.{published_by, shown_by, shelf_of};
-ghost use Rattle.loader.specs.Answers as answers;
-ghost use Rattle.loader.specs.Effects.{Performs, StopsAfter, StopsRequest, request_effect, request_roots};
-ghost use Rattle.loader.specs.Sessions.{state_of, files_of, IsConsistent};
-ghost use Rattle.loader.specs.Publishing.{AreEntries, Publishes, Shows, names_to_publish};
+ghost use Rattle.shelf.specs.Shelves.{published_by, shelf_of};
+ghost use Rattle.loader.specs.Effects.{StopsAfter, StopsRequest, request_roots};
+ghost use Rattle.loader.specs.RequestCalls.{IsReplyTo, RunsRequest};
+ghost use Rattle.loader.specs.PublishingCalls.{AreEntriesOf, IsReplyToLoad, KeepsHistory, KeepsShown, PublishesLoad, RunsLoad, ShowsLoad};
+ghost use Rattle.loader.specs.Sessions.{IsConsistent};
 
 use super::{Reply, Session};
 use crate::publishing::packages_reply;
@@ -34,28 +34,15 @@ impl Session {
         budget: u64,
     ) -> Result<(Reply, Option<Told>), Stop>
         requires { version_of (published_by keeper.old) ≤ self.old.graph.version }
-        ensures text { IfOk result
-            (λ r. answers.Tells (answers.IsRequestAnswer (request_seen request.now)
-            (files_of self.old)) (string_bytes r.0.text)) }
-        ensures moves { IfOk result
-            (λ r. Performs (request_effect (request_seen request.now) (state_of self.old)) self.old
-            self.new r.0.runs.items) }
+        ensures text { IfOk result (λ r. IsReplyTo request.now self.old r.0) }
+        ensures moves { IfOk result (λ r. RunsRequest request.now self.old self.new r.0) }
         ensures turns { IfOk result (λ r. turns_of r.0.runs.items ≤ budget) }
         ensures stopped { OnErr result (StopsRequest (request_seen request.now) self.old self.new) }
-        ensures history { (self.new.began ≡ self.old.began) × (self.new.edits ≡ self.old.edits) }
-        ensures version { self.new.graph.version ≡ self.old.graph.version }
-        ensures lawful { IsConsistent self.new }
+        ensures session { KeepsHistory self.old self.new }
         ensures shelf { shelf_of keeper.new ≡ shelf_of keeper.old }
-        ensures published { OnOk result (Publishes (files_of self.old) self.old.graph.version
-            (names_to_publish (request_seen request.now)) (published_by keeper.old)
-            (published_by keeper.new)) }
-        ensures told { IfOk result (λ r. Shows (names_to_publish (request_seen request.now)) r.1
-            keeper.old keeper.new) }
-        ensures refused { OnErr result ((published_by keeper.new ≡ published_by keeper.old)
-            ⊎ Publishes (files_of self.old) self.old.graph.version
-            (names_to_publish (request_seen request.now)) (published_by keeper.old)
-            (published_by keeper.new)) }
-        ensures hidden { OnErr result (shown_by keeper.new ≡ shown_by keeper.old) }
+        ensures published { OnOk result (PublishesLoad request.now self.old keeper.old keeper.new) }
+        ensures told { IfOk result (λ r. ShowsLoad request.now r.1 keeper.old keeper.new) }
+        ensures refused { OnErr result (KeepsShown request.now self.old keeper.old keeper.new) }
     {
         let Request::Load(names) = request else {
             return Ok((self.request(request, budget)?, None));
@@ -71,14 +58,9 @@ impl Session {
     // Replies to a load that is not refused, and returns the entries that it publishes too.
     fn load(&mut self, names: &[&str], budget: u64) -> Result<(Reply, Vec<(Text, Text)>), Stop>
         requires { request_refusal (load (texts_seen names.now)) ≡ None }
-        ensures text { IfOk result
-            (λ r. answers.Tells (answers.IsRequestAnswer (load (texts_seen names.now))
-            (files_of self.old)) (string_bytes r.0.text)) }
-        ensures entries { IfOk result (λ r. AreEntries (files_of self.old) (texts_seen names.now)
-            r.1.items) }
-        ensures moves { IfOk result
-            (λ r. Performs (request_effect (load (texts_seen names.now)) (state_of self.old))
-            self.old self.new r.0.runs.items) }
+        ensures text { IfOk result (λ r. IsReplyToLoad names.now self.old r.0) }
+        ensures entries { IfOk result (λ r. AreEntriesOf names.now self.old r.1.items) }
+        ensures moves { IfOk result (λ r. RunsLoad names.now self.old self.new r.0) }
         ensures turns { IfOk result (λ r. turns_of r.0.runs.items ≤ budget) }
         ensures stopped { OnErr result
             (StopsAfter (request_roots (load (texts_seen names.now))) self.old self.new) }

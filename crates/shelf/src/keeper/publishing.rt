@@ -1,9 +1,9 @@
 //! What the keeper publishes.
-ghost use Rattle.std.specs.Prelude.{◌≡◌, ◌⊎◌, ◌≤◌, [], IfOk, OnOk, OnErr, drop, fold};
+ghost use Rattle.std.specs.Prelude.{◌≡◌, ◌≤◌, [], IfOk, OnOk, OnErr, drop, fold};
 ghost use Rattle.left_right.specs.Sides.{view};
 ghost use Rattle.shelf.specs.Lists.{version_of, then_published};
 ghost use Rattle.shelf.specs.CopyRule.{after, state_of, id_of, IsReady};
-ghost use Rattle.shelf.specs.Shelves.{published_by, shown_by, shelf_of, told_in, shelf_told_of};
+ghost use Rattle.shelf.specs.Shelves.{published_by, shown_by, shelf_of, told_in, shelf_told_of, IsKeptOrHas};
 
 use super::Keeper;
 use super::sending::send;
@@ -38,9 +38,8 @@ impl<R: Wait + Drop> Keeper<R> {
         ensures told { IfOk result (λ told. (told_in told ≡ published_by self.new)
             × (shelf_told_of told ≡ shelf_of self.new)) }
         ensures shown { OnOk result (shown_by self.new ≡ published_by self.new) }
-        ensures err { OnErr result ((published_by self.new ≡ published_by self.old)
-            ⊎ (published_by self.new ≡ then_published (published_by self.old) version
-            entries.items)) }
+        ensures err { OnErr result (IsKeptOrHas (published_by self.old) version entries.items
+            (published_by self.new)) }
         ensures hidden { OnErr result (shown_by self.new ≡ shown_by self.old) }
     {
         send(&mut self.writer, &mut self.waiting)?;

@@ -6,7 +6,7 @@ use Rattle.values_semantics.specs.Functions.{KeywordArguments, is_twice}
 use Rattle.syntax_tree.specs.declared.def.Def.{Def}
 use Rattle.syntax_tree.specs.declared.def.Param.{Param}
 use Rattle.syntax_tree.specs.Statements.{fn_of, param_of}
-use Rattle.evaluator_semantics.specs.Arguments.{plain_part, named_part, are_parameters}
+use Rattle.evaluator_semantics.specs.Arguments.{plain_part, named_part, value_named, are_parameters}
 use Rattle.evaluator_state.specs.SharedDefaults.{default_values}
 use Rattle.evaluator_calls.proofs.SparseCalls.{entered}
 use Rattle.evaluator_calls.proofs.sparse_calls.sparse_block.Goals as goal
@@ -20,16 +20,16 @@ returns c =
     let made = rw c.in-Some-2.is at c.in_ok-named.ensures in
     let params : c.as_slice-params.result.now ≡ d.params.items = c.as_slice-params.ensures.value ∙ ap (λ (e : Def). e.params.items) c.deref-3.ensures in
     let known : are_parameters named f.params ≡ true =
-    ap (λ (ns : KeywordArguments). are_parameters ns f.params) (sym made.1) ∙ sym (c.in_ok-are_parameters.ensures ∙ ap (λ (ps : List Param). are_parameters c.in-Some-2.named (map param_of ps)) params) ∙ c.if-not-branch.false in
+    ap (λ (ns : KeywordArguments). are_parameters ns f.params) (sym made.1) ∙ sym (c.if-not-are_parameters_of.ensures ∙ ap (λ (e : Def). are_parameters c.in-Some-2.named (map param_of e.params.items)) c.deref-4.ensures) in
     let yes : c.are_given.result ≡ true = search rules in
-    let counted : c.len.result ≡ length c.deref-4.result.now.items = search rules in
-    let number : c.len.result ≡ length ds = counted ∙ ap (λ (v : Vec Val Global). length v.items) c.deref-4.ensures ∙ ap length c.in_ok-defaults.ensures in
+    let counted : c.len.result ≡ length c.deref-5.result.now.items = search rules in
+    let number : c.len.result ≡ length ds = counted ∙ ap (λ (v : Vec Val Global). length v.items) c.deref-5.ensures ∙ ap length c.in_ok-defaults.ensures in
     let given = rw (params, first, made.1 ∙ behind, number) at (c.are_given.ensures yes) in
     let same : arc_value c.in_ok-try_clone.field-0 ≡ d = search rules in
     entered d _ (plain_part xs names) (named_part xs names) ds
     same
     (c.in_ok-from_slice.ensures.items ∙ first)
-    (ap (λ l. zip l c.in_ok-from_slice-2.field-0.items) c.in_ok-copy_names.ensures ∙ ap (λ l. zip names l) c.in_ok-from_slice-2.ensures.items ∙ behind)
+    (λ x. c.in_ok-names.ensures x ∙ ap (value_named x) (made.1 ∙ behind))
     c.in_ok-defaults.ensures
     c.new-2.ensures.empty
     (d.needed c.in-Some.required (ap (λ (e : Def). e.required) (sym c.deref.ensures) ∙ c.in-Some.is))

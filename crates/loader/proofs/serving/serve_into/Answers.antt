@@ -7,17 +7,17 @@ returns-in_err-pending-clause-err g c = on_err _ (stopped_at_start _ _ _ _)
 
 pub returns-in_err-serve_line-clause-err : goal.returns-in_err-serve_line-clause-err
 returns-in_err-serve_line-clause-err g c =
-    let k = c.in_err-serve_line.ensures.err (g.R.Input.told c.args.reader.now) (g.W.Output.held c.args.writer.now) c.loop-line.invariant.between in
-    on_err _ (stopped_since c.loop-line.invariant.ends k)
+    let k = c.in_err-serve_line.ensures.err (g.R.Input.told c.args.reader.now) (g.W.Output.held c.args.writer.now) c.loop-serving.invariant.between in
+    on_err _ (stopped_since c.loop-serving.invariant.ends k)
 
 pub returns-clause-ok : goal.returns-clause-ok
 returns-clause-ok g c =
     let done = c.if-branch.false in
-    let after = c.in_ok-serve_line.ensures.ok (g.R.Input.told c.args.reader.now) (g.W.Output.held c.args.writer.now) c.loop-line.invariant.between in
+    let after = c.in_ok-serve_line.ensures.ok (g.R.Input.told c.args.reader.now) (g.W.Output.held c.args.writer.now) c.loop-serving.invariant.between in
     rw done at after
 
-pub loop-line-init : goal.loop-line-init
-loop-line-init g c = record {
+pub loop-serving-init : goal.loop-serving-init
+loop-serving-init g c = record {
   between = between_at_start c.args.budget (g.R.Input.told c.args.reader.now) (g.W.Output.held c.args.writer.now) c.in_ok-pending.pending c.new-session.result (g.J.Runs.kept c.args.journal.now) c.in_ok-pending.ensures c.requires
       c.new-session.ensures.lawful c.new-session.ensures.history.0 c.new-session.ensures.history.1 c.new-session.ensures.records c.new-session.ensures.state;
   ends = omega arith;

@@ -7,19 +7,19 @@ use Rattle.loader.proofs.serving.serve_line.Goals as goal
 
 pub returns-in_err-ended-clause-err : goal.returns-in_err-ended-clause-err
 returns-in_err-ended-clause-err g c =
-    let k : (told held : List ℕ) → Between c.args.budget told (g.R.Input.told c.args.reader.now) held (g.W.Output.held c.args.writer.now) c.args.pending.now c.args.session.now (g.J.Runs.kept c.args.journal.now)
+    let k : (told held : List ℕ) → Between c.args.budget told (g.R.Input.told c.args.reader.now) held (g.W.Output.held c.args.writer.now) c.args.serving.now.pending c.args.serving.now.session (g.J.Runs.kept c.args.journal.now)
     → Stopped (g.R.Input.ends c.args.reader.now) (g.R.Input.ends c.next_line.new.input) told (g.R.Input.told c.next_line.new.input) held (g.W.Output.held c.args.writer.now) = λ told held b. let f = c.in_err-ended.ensures.err in stopped_before b _ _ _ f.0 f.1 in
     on_err _ k
 
 pub returns-in_err-text-clause-err : goal.returns-in_err-text-clause-err
 returns-in_err-text-clause-err g c =
-    let k : (told held : List ℕ) → Between c.args.budget told (g.R.Input.told c.args.reader.now) held (g.W.Output.held c.args.writer.now) c.args.pending.now c.args.session.now (g.J.Runs.kept c.args.journal.now)
+    let k : (told held : List ℕ) → Between c.args.budget told (g.R.Input.told c.args.reader.now) held (g.W.Output.held c.args.writer.now) c.args.serving.now.pending c.args.serving.now.session (g.J.Runs.kept c.args.journal.now)
     → Stopped (g.R.Input.ends c.args.reader.now) (g.R.Input.ends c.next_line.new.input) told (g.R.Input.told c.next_line.new.input) held (g.W.Output.held c.args.writer.now) = λ told held b. let t = c.in_ok-ended.ensures.took in stopped_before b _ _ _ t.fresh t.told in
     on_err _ k
 
 pub returns-in_err-write-clause-err : goal.returns-in_err-write-clause-err
 returns-in_err-write-clause-err g c =
-    let k : (told held : List ℕ) → Between c.args.budget told (g.R.Input.told c.args.reader.now) held (g.W.Output.held c.args.writer.now) c.args.pending.now c.args.session.now (g.J.Runs.kept c.args.journal.now)
+    let k : (told held : List ℕ) → Between c.args.budget told (g.R.Input.told c.args.reader.now) held (g.W.Output.held c.args.writer.now) c.args.serving.now.pending c.args.serving.now.session (g.J.Runs.kept c.args.journal.now)
     → Stopped (g.R.Input.ends c.args.reader.now) (g.R.Input.ends c.next_line.new.input) told (g.R.Input.told c.next_line.new.input) held (g.W.Output.held c.write.new.self) = λ told held b.
     let t = c.in_ok-ended.ensures.took in
     let no : (not c.in_ok-ended.ended && (length t.line == 0)) ≡ false = sym (c.is_end.ensures t.line t.keeps) ∙ c.if-is_end.false in

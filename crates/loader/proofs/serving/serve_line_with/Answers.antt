@@ -8,23 +8,23 @@ use Rattle.loader.proofs.serving.serve_line_with.Goals as goal
 
 pub returns-in_err-ended-clause-err : goal.returns-in_err-ended-clause-err
 returns-in_err-ended-clause-err g c =
-    let k : (told held : List ℕ) → Between c.args.budget told (g.R.Input.told c.args.reader.now) held (g.W.Output.held c.args.writer.now) c.args.pending.now c.args.session.now (g.J.Runs.kept c.args.journal.now)
+    let k : (told held : List ℕ) → Between c.args.budget told (g.R.Input.told c.args.reader.now) held (g.W.Output.held c.args.writer.now) c.args.serving.now.pending c.args.serving.now.session (g.J.Runs.kept c.args.journal.now)
     → Stopped (g.R.Input.ends c.args.reader.now) (g.R.Input.ends c.next_line.new.input) told (g.R.Input.told c.next_line.new.input) held (g.W.Output.held c.args.writer.now) = λ told held b. let f = c.in_err-ended.ensures.err in stopped_before b _ _ _ f.0 f.1 in
     on_err _ k
 
-pub returns-in_err-back-clause-err : goal.returns-in_err-back-clause-err
-returns-in_err-back-clause-err g c =
-    let k : (told held : List ℕ) → Between c.args.budget told (g.R.Input.told c.args.reader.now) held (g.W.Output.held c.args.writer.now) c.args.pending.now c.args.session.now (g.J.Runs.kept c.args.journal.now)
+pub returns-in_err-done-clause-err : goal.returns-in_err-done-clause-err
+returns-in_err-done-clause-err g c =
+    let k : (told held : List ℕ) → Between c.args.budget told (g.R.Input.told c.args.reader.now) held (g.W.Output.held c.args.writer.now) c.args.serving.now.pending c.args.serving.now.session (g.J.Runs.kept c.args.journal.now)
     → Stopped (g.R.Input.ends c.args.reader.now) (g.R.Input.ends c.next_line.new.input) told (g.R.Input.told c.next_line.new.input) held (g.W.Output.held c.args.writer.now) = λ told held b. let t = c.in_ok-ended.ensures.took in stopped_before b _ _ _ t.fresh t.told in
     on_err _ k
 
 pub returns-in_err-write-clause-err : goal.returns-in_err-write-clause-err
 returns-in_err-write-clause-err g c =
-    let k : (told held : List ℕ) → Between c.args.budget told (g.R.Input.told c.args.reader.now) held (g.W.Output.held c.args.writer.now) c.args.pending.now c.args.session.now (g.J.Runs.kept c.args.journal.now)
+    let k : (told held : List ℕ) → Between c.args.budget told (g.R.Input.told c.args.reader.now) held (g.W.Output.held c.args.writer.now) c.args.serving.now.pending c.args.serving.now.session (g.J.Runs.kept c.args.journal.now)
     → Stopped (g.R.Input.ends c.args.reader.now) (g.R.Input.ends c.next_line.new.input) told (g.R.Input.told c.next_line.new.input) held (g.W.Output.held c.write.new.self) = λ told held b.
     let t = c.in_ok-ended.ensures.took in
     let no : (not c.in_ok-ended.ended && (length t.line == 0)) ≡ false = sym (c.is_end.ensures t.line t.keeps) ∙ c.if-is_end.false in
-    let added = c.in_ok-back.ensures.answer t.line t.keeps in
+    let added = c.in_ok-done.ensures.answer t.line t.keeps in
     let a = added.3 in
     let e = c.in_err-write.ensures.err in
     stopped_within b _ _ c.in_ok-ended.ended t no c.in_ok-ended.ensures.ended (g.W.Output.held c.write.new.self) e.0 a.told.0 a.told.1
@@ -35,7 +35,7 @@ pub returns-clause-ok : goal.returns-clause-ok
 returns-clause-ok g c = λ told held b.
     let t = c.in_ok-ended.ensures.took in
     let no : (not c.in_ok-ended.ended && (length t.line == 0)) ≡ false = sym (c.is_end.ensures t.line t.keeps) ∙ c.if-is_end.false in
-    let added = c.in_ok-back.ensures.answer t.line t.keeps in
+    let added = c.in_ok-done.ensures.answer t.line t.keeps in
     let a = added.3 in
     subst (λ (xs : List Run). After c.args.budget c.in_ok-ended.ended told (g.R.Input.told c.next_line.new.input) held (g.W.Output.held c.write.new.self) c.next_line.new.pending c.reply_to_line_with.new.session xs) (sym added.1)
     (after_line b c.in_ok-ended.ended t no (g.W.Output.held c.write.new.self) c.reply_to_line_with.new.session added.0 a.told.0 a.told.1
@@ -47,8 +47,8 @@ returns-then-is_end-clause-ok g c = λ told held b.
     let t = c.in_ok-ended.ensures.took in
     served_at_end b c.in_ok-ended.ended t (sym (c.is_end.ensures t.line t.keeps) ∙ c.if-is_end.true)
 
-pub returns-clause-counted : goal.returns-clause-counted
-returns-clause-counted g c =
-    let made = c.in_ok-back.ensures.counted in
+pub returns-clause-hands : goal.returns-clause-hands
+returns-clause-hands g c =
+    let made = c.in_ok-done.ensures.counted in
     let lent = ap (λ h. total g.H.Rules.turns h.items) c.replace-lent.ensures.value in
-    omega (arith, made, lent)
+    (c.in_ok-done.ensures.hands ∙ ap (λ h. length h.items) c.replace-lent.ensures.value, omega (arith, made, lent))

@@ -77,5 +77,5 @@ pub returns-clause-counted : goal.returns-clause-counted
 returns-clause-counted g c =
     let kept = ap turns_of c.in_ok-tell_reply-in-Request.ensures.kept in
     let more = turns_append (g.J.Runs.kept c.args.journal.now) c.in_ok-hands-in-Request.reply.runs.items in
-    let made = c.in_ok-hands-in-Request.ensures.counted in
+    let made = c.in_ok-hands-in-Request.ensures.hands.1 in
     omega arith

@@ -1,4 +1,4 @@
-use Rattle.std.proofs.Common.{List, ◌∷◌, [], Ok, Err, length, length-append, ◌∙◌, sym, ap, subst, arith}
+use Rattle.std.proofs.Common.{List, ◌∷◌, [], Ok, Err, length, length-append, refl, ◌∙◌, sym, ap, subst, arith}
 use Rattle.board.specs.Rule.{total}
 use Rattle.board.proofs.Moves.{total_snoc}
 use Rattle.keys.specs.declared.key.Key.{Key}
@@ -18,21 +18,24 @@ returns-in_err-first-clause-stopped g c =
     (λ laws past h. ([], c.in_ok-round.ensures.truth g.R.Rules.next laws past h)) in
     on_err c.from_residual-in_err-first.result (λ past h. c.in_err-first.ensures.stopped c.args.roots.now c.args.graph.now opened laws past h)
 
-pub evaluate_with_workers-requires-clause-truth : goal.evaluate_with_workers-requires-clause-truth
-evaluate_with_workers-requires-clause-truth g c κs within =
-    moved (λ rs entry. IsTrueSinceSome g.R.Rules.next (leaves.read c.args.tree.now) rs entry c.make_first_turns.new.graph c.make_first_turns.new.round.table)
-    c.make_first_turns.new.round.roots.items c.in_ok-shared.shared.items c.of-entry.result.value c.args.graph.now (sym (c.in_ok-first.ensures.rests.same_roots ∙ c.in_ok-round.ensures.begins.0)) (sym c.of-entry.ensures)
-    (c.in_ok-first.ensures.truth c.in_ok-shared.shared.items c.args.graph.now (λ laws past h. ([], c.in_ok-round.ensures.truth g.R.Rules.next laws past h)))
+pub evaluate_with_workers-requires-clause-evaluation : goal.evaluate_with_workers-requires-clause-evaluation
+evaluate_with_workers-requires-clause-evaluation g c κs within = let rests = c.in_ok-first.ensures.rests in record {
+  rests = record { beside = rests.beside; none_out = rests.none_out; same_roots = refl; made = rests.made };
+  within = c.in_ok-first.ensures.within;
+  truth = moved (λ rs entry. IsTrueSinceSome g.R.Rules.next (leaves.read c.args.tree.now) rs entry c.make_first_turns.new.graph c.make_first_turns.new.round.table)
+      c.make_first_turns.new.round.roots.items c.in_ok-shared.shared.items c.of-entry.result.value c.args.graph.now (sym (c.in_ok-first.ensures.rests.same_roots ∙ c.in_ok-round.ensures.begins.0)) (sym c.of-entry.ensures)
+      (c.in_ok-first.ensures.truth c.in_ok-shared.shared.items c.args.graph.now (λ laws past h. ([], c.in_ok-round.ensures.truth g.R.Rules.next laws past h)));
+}
 
 pub returns-then-has_ready-clause-law : goal.returns-then-has_ready-clause-law
 returns-then-has_ready-clause-law g c = if_ok c.evaluate_with_workers.result
     (λ done. moved (λ rs entry. Calls g.R.Rules.next (leaves.read c.args.tree.now) rs entry c.evaluate_with_workers.new.graph (Ok done.1.items)) c.args.roots.now c.make_first_turns.new.round.roots.items c.args.graph.now c.of-entry.result.value
-    (c.in_ok-first.ensures.rests.same_roots ∙ c.in_ok-round.ensures.begins.0 ∙ c.in_ok-shared.ensures) c.of-entry.ensures) c.evaluate_with_workers.ensures.law
+    (c.in_ok-first.ensures.rests.same_roots ∙ c.in_ok-round.ensures.begins.0 ∙ c.in_ok-shared.ensures) c.of-entry.ensures) c.evaluate_with_workers.ensures.ended.law
 
 pub returns-then-has_ready-clause-stopped : goal.returns-then-has_ready-clause-stopped
 returns-then-has_ready-clause-stopped g c = if_err c.evaluate_with_workers.result
     (λ e. moved (λ rs entry. Calls g.R.Rules.next (leaves.read c.args.tree.now) rs entry c.evaluate_with_workers.new.graph (Err e)) c.args.roots.now c.make_first_turns.new.round.roots.items c.args.graph.now c.of-entry.result.value
-    (c.in_ok-first.ensures.rests.same_roots ∙ c.in_ok-round.ensures.begins.0 ∙ c.in_ok-shared.ensures) c.of-entry.ensures) c.evaluate_with_workers.ensures.stopped
+    (c.in_ok-first.ensures.rests.same_roots ∙ c.in_ok-round.ensures.begins.0 ∙ c.in_ok-shared.ensures) c.of-entry.ensures) c.evaluate_with_workers.ensures.ended.stopped
 
 pub returns-then-has_ready-clause-turns : goal.returns-then-has_ready-clause-turns
 returns-then-has_ready-clause-turns g c =
@@ -50,12 +53,12 @@ returns-then-has_ready-clause-hands g c =
 pub returns-then-has_ready-clause-budget : goal.returns-then-has_ready-clause-budget
 returns-then-has_ready-clause-budget g c = λ e. moved (λ rs entry. HasOpenRoot g.R.Rules.next (leaves.read c.args.tree.now) rs entry c.evaluate_with_workers.new.graph)
     c.args.roots.now c.make_first_turns.new.round.roots.items c.args.graph.now c.of-entry.result.value (c.in_ok-first.ensures.rests.same_roots ∙ c.in_ok-round.ensures.begins.0 ∙ c.in_ok-shared.ensures) c.of-entry.ensures
-    (c.evaluate_with_workers.ensures.budget e)
+    (c.evaluate_with_workers.ensures.ended.open_root e)
 
 pub returns-then-has_ready-clause-spent : goal.returns-then-has_ready-clause-spent
 returns-then-has_ready-clause-spent g c = λ e. moved (λ rs entry. HasTurnToMake g.R.Rules.next (leaves.read c.args.tree.now) rs entry c.evaluate_with_workers.new.graph)
     c.args.roots.now c.make_first_turns.new.round.roots.items c.args.graph.now c.of-entry.result.value (c.in_ok-first.ensures.rests.same_roots ∙ c.in_ok-round.ensures.begins.0 ∙ c.in_ok-shared.ensures) c.of-entry.ensures
-    (c.evaluate_with_workers.ensures.spent e)
+    (c.evaluate_with_workers.ensures.ended.spent e)
 
 pub returns-in_err-runs-clause-stopped : goal.returns-in_err-runs-clause-stopped
 returns-in_err-runs-clause-stopped g c =

@@ -3,4 +3,4 @@ use Rattle.pool.proofs.evaluations.in_scope.Goals as goal
 
 pub scoped-requires : goal.scoped-requires
 scoped-requires g c = let a = c.type_bounds.send-R in let b = c.type_bounds.send-R-State in let d = c.type_bounds.sync-T in
-    record { at = λ x. (c.requires.host, (c.requires.hands, (c.requires.some, (c.requires.places, (c.requires.rests, (c.requires.truth, (search sendable, search sendable, search sendable))))))) }
+    record { at = λ x. (c.requires.seats, (c.requires.evaluation, (search sendable, search sendable, search sendable))) }

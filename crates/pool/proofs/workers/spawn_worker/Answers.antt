@@ -22,7 +22,7 @@ spawn_with-hired-requires-send-T g c κs within =
 
 pub returns-in-Ok-clause-new : goal.returns-in-Ok-clause-new
 returns-in-Ok-clause-new g c = let hand = c.in-Some-pop.ensures.items in
-    all_before (λ h. IsNewHand c.args.board.now.table.shared.table_id h.seat) c.pop-2.new.self.items c.in-Some-pop.hand (rw (← hand) c.requires.new)
+    all_before (λ h. IsNewHand c.args.context.now.board.now.table.shared.table_id h.seat) c.pop-2.new.self.items c.in-Some-pop.hand (rw (← hand) c.requires.new)
 
 pub returns-in-Ok-clause-crew : goal.returns-in-Ok-clause-crew
 returns-in-Ok-clause-crew g c = let i = c.requires.crew in let own = c.in-Some.ensures.items in let hand = c.in-Some-pop.ensures.items in let worker = c.push_reserved.ensures.items in
@@ -34,15 +34,15 @@ returns-in-Ok-clause-crew g c = let i = c.requires.crew in let own = c.in-Some.e
     let u = ap (total (λ w. g.R.Rules.turns w.promise.given.value)) worker in let u' = total_snoc (λ w. g.R.Rules.turns w.promise.given.value) c.args.crew.now.workers.items c.in-Ok.worker in
     let v = ap (total (λ h. made_in h.seat.me.0.answers)) hand in let v' = total_snoc (λ h. made_in h.seat.me.0.answers) c.pop-2.new.self.items c.in-Some-pop.hand in
     let given : g.R.Rules.turns c.in-Ok.worker.promise.given.value ≡ g.R.Rules.turns c.in-Some.own = ap (λ p. g.R.Rules.turns p.given.value) promise ∙ ap g.R.Rules.turns c.of.ensures in
-    let all_new : All (λ h. IsNewHand c.args.board.now.table.shared.table_id h.seat) (c.pop-2.new.self.items ++ c.in-Some-pop.hand ∷ []) = rw (← hand) c.requires.new in
-    let last_new = all_last (λ h. IsNewHand c.args.board.now.table.shared.table_id h.seat) c.pop-2.new.self.items c.in-Some-pop.hand all_new in
+    let all_new : All (λ h. IsNewHand c.args.context.now.board.now.table.shared.table_id h.seat) (c.pop-2.new.self.items ++ c.in-Some-pop.hand ∷ []) = rw (← hand) c.requires.new in
+    let last_new = all_last (λ h. IsNewHand c.args.context.now.board.now.table.shared.table_id h.seat) c.pop-2.new.self.items c.in-Some-pop.hand all_new in
     let none : made_in c.in-Some-pop.hand.seat.me.0.answers ≡ 0 = ap (λ m. made_in m.0.answers) last_new.1 in
-    let seats : All (λ h. IsHandAtRest c.args.board.now.table.shared.table_id h.seat) (c.pop-2.new.self.items ++ c.in-Some-pop.hand ∷ []) = rw (← hand) i.seats in
+    let seats : All (λ h. IsHandAtRest c.args.context.now.board.now.table.shared.table_id h.seat) (c.pop-2.new.self.items ++ c.in-Some-pop.hand ∷ []) = rw (← hand) i.seats in
     let cap_rules = c.in-Some.ensures.capacity in let cap_hands = c.in-Some-pop.ensures.capacity in let cap_workers = c.push_reserved.ensures.capacity in (
       record {
         paired = omega (arith, a, a', b, b', i1);
-        here = rw worker (all_snoc (λ w. w.promise.board.now.table.shared.table_id ≡ c.args.board.now.table.shared.table_id) c.args.crew.now.workers.items c.in-Ok.worker i.here (ap (λ p. p.board.now.table.shared.table_id) promise));
-        seats = all_before (λ h. IsHandAtRest c.args.board.now.table.shared.table_id h.seat) c.pop-2.new.self.items c.in-Some-pop.hand seats;
+        here = rw worker (all_snoc (λ w. w.promise.board.now.table.shared.table_id ≡ c.args.context.now.board.now.table.shared.table_id) c.args.crew.now.workers.items c.in-Ok.worker i.here (ap (λ p. p.board.now.table.shared.table_id) promise));
+        seats = all_before (λ h. IsHandAtRest c.args.context.now.board.now.table.shared.table_id h.seat) c.pop-2.new.self.items c.in-Some-pop.hand seats;
         rules_fit = omega (arith, a, a', d, d', i3, cap_rules);
         hands_fit = omega (arith, a, a', d, d', i4, cap_hands);
         workers_fit = omega (arith, a, a', d, d', i5, cap_workers);
@@ -58,20 +58,20 @@ returns-in-Err-clause-crew g c = let i = c.requires.crew in let own = c.in-Some.
     let u = ap (total g.R.Rules.turns) rules in let u' = total_snoc g.R.Rules.turns c.pop.new.self.items c.spawn_with-rules.result.rules in
     let v = ap (total (λ h. made_in h.seat.me.0.answers)) hand in let v' = total_snoc (λ h. made_in h.seat.me.0.answers) c.pop-2.new.self.items c.in-Some-pop.hand in
     let x = ap (total (λ h. made_in h.seat.me.0.answers)) hands in let x' = total_snoc (λ h. made_in h.seat.me.0.answers) c.pop-2.new.self.items c.spawn_with-rules.result.hand in
-    let all_new : All (λ h. IsNewHand c.args.board.now.table.shared.table_id h.seat) (c.pop-2.new.self.items ++ c.in-Some-pop.hand ∷ []) = rw (← hand) c.requires.new in
-    let last_new = all_last (λ h. IsNewHand c.args.board.now.table.shared.table_id h.seat) c.pop-2.new.self.items c.in-Some-pop.hand all_new in
+    let all_new : All (λ h. IsNewHand c.args.context.now.board.now.table.shared.table_id h.seat) (c.pop-2.new.self.items ++ c.in-Some-pop.hand ∷ []) = rw (← hand) c.requires.new in
+    let last_new = all_last (λ h. IsNewHand c.args.context.now.board.now.table.shared.table_id h.seat) c.pop-2.new.self.items c.in-Some-pop.hand all_new in
     let none : made_in c.in-Some-pop.hand.seat.me.0.answers ≡ 0 = ap (λ m. made_in m.0.answers) last_new.1 in
     let a = ap length own in let b = ap length hand in let d = ap length rules in let e = ap length hands in
     let a' = length-append c.pop.new.self.items (c.in-Some.own ∷ []) in let b' = length-append c.pop-2.new.self.items (c.in-Some-pop.hand ∷ []) in
     let d' = length-append c.pop.new.self.items (c.spawn_with-rules.result.rules ∷ []) in let e' = length-append c.pop-2.new.self.items (c.spawn_with-rules.result.hand ∷ []) in
     let i1 = i.paired in let i3 = i.rules_fit in let i4 = i.hands_fit in let i5 = i.workers_fit in
     let cap_rules = c.in-Some.ensures.capacity in let cap_hands = c.in-Some-pop.ensures.capacity in let cap_rules2 = c.push_reserved-in-Err.ensures.capacity in let cap_hands2 = c.push_reserved-in-Err-2.ensures.capacity in
-    let seats : All (λ h. IsHandAtRest c.args.board.now.table.shared.table_id h.seat) (c.pop-2.new.self.items ++ c.in-Some-pop.hand ∷ []) = rw (← hand) i.seats in
-    let before = all_before (λ h. IsHandAtRest c.args.board.now.table.shared.table_id h.seat) c.pop-2.new.self.items c.in-Some-pop.hand seats in (
+    let seats : All (λ h. IsHandAtRest c.args.context.now.board.now.table.shared.table_id h.seat) (c.pop-2.new.self.items ++ c.in-Some-pop.hand ∷ []) = rw (← hand) i.seats in
+    let before = all_before (λ h. IsHandAtRest c.args.context.now.board.now.table.shared.table_id h.seat) c.pop-2.new.self.items c.in-Some-pop.hand seats in (
       record {
         paired = omega (arith, a, a', b, b', d, d', e, e', i1);
         here = i.here;
-        seats = rw hands (all_snoc (λ h. IsHandAtRest c.args.board.now.table.shared.table_id h.seat) c.pop-2.new.self.items c.spawn_with-rules.result.hand before ((seat.0.0 ∙ same_board, seat.0.1, seat.0.2), seat.1));
+        seats = rw hands (all_snoc (λ h. IsHandAtRest c.args.context.now.board.now.table.shared.table_id h.seat) c.pop-2.new.self.items c.spawn_with-rules.result.hand before ((seat.0.0 ∙ same_board, seat.0.1, seat.0.2), seat.1));
         rules_fit = omega (arith, a, a', d, d', i3, cap_rules, cap_rules2);
         hands_fit = omega (arith, a, a', d, d', i4, cap_hands, cap_hands2);
         workers_fit = omega (arith, a, a', d, d', i5);

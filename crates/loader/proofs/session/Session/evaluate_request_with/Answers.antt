@@ -97,9 +97,11 @@ returns-in_default-clause-moves g c =
     moved_once request old new c.in_ok-hands.runs.items none_are
     (evaluates old.graph.version c.as_slice.result.now (request_roots request) old new c.in_ok-hands.runs.items refl (c.as_slice.ensures.value ∙ c.in_ok-roots.ensures) c.in_ok-hands.ensures.history c.in_ok-hands.ensures.law)
 
-pub returns-clause-counted : goal.returns-clause-counted
-returns-clause-counted g c =
-    omega (arith, ap turns_of c.in_ok-all.ensures, turns_append c.in_ok-hands.runs.items c.in_ok-hands-2.more.items, c.in_ok-hands.ensures.counted, c.in_ok-hands-2.ensures.counted)
+pub returns-clause-hands : goal.returns-clause-hands
+returns-clause-hands g c = (
+  c.in_ok-hands-2.ensures.hands.0 ∙ c.in_ok-hands.ensures.hands.0,
+  omega (arith, ap turns_of c.in_ok-all.ensures, turns_append c.in_ok-hands.runs.items c.in_ok-hands-2.more.items, c.in_ok-hands.ensures.hands.1, c.in_ok-hands-2.ensures.hands.1),
+)
 
 pub returns-clause-roots : goal.returns-clause-roots
 returns-clause-roots g c =

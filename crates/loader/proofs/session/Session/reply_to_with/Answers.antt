@@ -19,7 +19,7 @@ returns-clause-text g c =
     = held_in files c.in_ok-hands.roots.items c.as_slice.result.now c.evaluate_request_with.new.self.graph c.self-2.inside.graph
     (sym c.as_slice.ensures.value) (sym (ap (λ (x : SessionView). x.graph) c.self-2.view_is)) c.in_ok-hands.ensures.held in
     let good : HasPaths files = subst (λ (f : Files). HasPaths f) (c.self.invariant.0 ∙ ap files_of c.self.view_is) c.self.invariant.2 in
-    let accepted : request_refusal request ≡ None = c.requires.accepted in
+    let accepted : request_refusal request ≡ None = c.requires.1 in
     let told : Tells (IsValueOf request files) (string_bytes c.in_ok-line.line) = c.in_ok-line.ensures files good accepted (c.as_slice.ensures.value ∙ c.in_ok-hands.ensures.roots) held in
     text_told request files (string_bytes c.in_ok-line.line) accepted told
 

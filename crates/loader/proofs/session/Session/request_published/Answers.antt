@@ -30,11 +30,14 @@ returns-in_err-told-clause-refused g c =
     let loaded : request_seen c.args.request.now ≡ load names = ap request_seen c.in-Load.is ∙ ap (λ ns. load (texts_seen ns)) (sym c.as_slice.ensures.value) in
     let accepted : request_refusal (load names) ≡ None = ap request_refusal (sym loaded) ∙ (sym c.in_ok-refusal.ensures ∙ none_left c.in_ok-refusal.field-0 (sym c.is_some.ensures ∙ c.if-is_some.false)) in
     let at : c.from.result ≡ version = c.from.ensures ∙ (c.version.ensures ∙ c.in_ok-reply.ensures.version) in
-    on_err c.from_residual-in_err-told.result (elim c.in_err-told.ensures.err [
-      | inl same ↦ inl same
-      | inr more ↦ inr (subst (λ r. Publishes files version (names_to_publish r) old new) (sym loaded)
-          (published_so names accepted files version old new entries c.in_ok-reply.ensures.entries (more ∙ ap (λ v. then_published old v entries) at)))
-    ])
+    on_err c.from_residual-in_err-told.result (
+      elim c.in_err-told.ensures.err [
+        | inl same ↦ inl same
+        | inr more ↦ inr (subst (λ r. Publishes files version (names_to_publish r) old new) (sym loaded)
+            (published_so names accepted files version old new entries c.in_ok-reply.ensures.entries (more ∙ ap (λ v. then_published old v entries) at)))
+      ],
+      c.in_err-told.ensures.hidden,
+    )
 
 pub returns-clause-published : goal.returns-clause-published
 returns-clause-published g c =
