@@ -11,7 +11,7 @@ CLIENT := clients/python
 TESTED := run.py harness checks style wrong_bodies
 LOADER := $(abspath $(or $(SEFGULAW_LOADER),$(PROGRAM)))
 
-.PHONY: help clients clients-long has-loader quick run build measures shelf-trials readers embedding overlaps trials schedules bell test lint digests golden language wrong-bodies answers limits allocations workers events batches under hostile giving-back bench harness check
+.PHONY: help clients clients-long has-loader quick run build measures shelf-trials readers embedding overlaps trials sessions schedules bell test lint digests golden language wrong-bodies answers limits allocations workers events batches under hostile giving-back bench harness check
 
 help:  ## prints this list
 	@awk -F ':.*## ' '/^[a-z][a-z -]*:.*## / { printf "%-17s %s\n", $$1, $$2 }' $(MAKEFILE_LIST)
@@ -133,14 +133,15 @@ overlaps: build  ## tries turns that are under way at once (minutes)
 bell:  ## tries all interleavings of threads that wait for each other (seconds)
 	@$(PYTHON) tests/bell.py
 
-# What is compared over the libraries of the product: sessions, budgets, devices and turns in another order (`trials`),
-# and lists of choices (`schedules`). Built as `measures` is, with the libraries that `build` lacks. Each program reads
-# its file `stdin`, and what it writes has to be its file `stdout`.
-trials schedules: build  ## compares sessions and budgets, and lists of choices (minutes)
+# What is compared over the libraries of the product: budgets, devices and turns in another order (`trials`), sessions
+# and what they say of changes (`sessions`), and lists of choices (`schedules`). Built as `measures` is, with the
+# libraries that `build` lacks. Each program reads its file `stdin`, and what it writes has to be its file `stdout`.
+trials sessions schedules: build  ## compares budgets, sessions, and lists of choices (minutes)
 	@python3 tests/harness/build.py $@
 	@bench/out/$@ < tests/$@/stdin > bench/out/$@.stdout
 	@diff tests/$@/stdout bench/out/$@.stdout
-	@test $@ = schedules || python3 tests/run.py talk changes --command 'bench/out/$@ talk' --program $(PROGRAM)
+	@test $@ != trials || python3 tests/run.py talk --command 'bench/out/$@ talk' --program $(PROGRAM)
+	@test $@ != sessions || python3 tests/run.py changes --program $(PROGRAM)
 	@echo "$@: $$(wc -l < tests/$@/stdout) lines compared, 0 wrong"
 
 # The same answers with 1 to 16 workers, over the gate's commands, scripts and 10,000 random scripts.

@@ -1,5 +1,5 @@
-"""What a session tells of changes, compared with what fresh answers tell. `make trials` builds the
-program.
+"""What a session tells of changes, compared with what fresh answers tell. `make sessions` builds
+the program.
 
 Random scripts of edits are made of a session, with requests between them, some of which stop for
 want of turns. After some edits all packages are loaded, so that their texts at that version are
@@ -20,7 +20,7 @@ from harness.loader import Loader
 from harness.report import Report
 from harness.scripts import DIRECTORIES, Maker
 
-PROGRAM = "bench/out/trials"
+PROGRAM = "bench/out/sessions"
 SCRIPTS = 1_000
 BUDGET = 1_000_000
 NAMES = sorted(set(DIRECTORIES))
@@ -67,7 +67,7 @@ def changes_of(answer: str) -> tuple[set[str], set[str]]:
 
 def served(lines: list[str]) -> list[str]:
     """The answers of the program. The line `new` has none."""
-    ran = Loader(path_of(PROGRAM), "sessions").run(("\n".join(lines) + "\n").encode())
+    ran = Loader(path_of(PROGRAM)).run(("\n".join(lines) + "\n").encode())
     if ran.status:
         raise ValueError(f"status {ran.status}, said {ran.said[-200:]!r}")
     return ran.written.decode().splitlines()

@@ -30,6 +30,7 @@ PROGRAMS: dict[str, tuple[str, list[str]]] = {
     "readers": ("examples/readers", []),
     "overlaps": ("tests/overlaps", []),
     "trials": ("tests/trials", []),
+    "sessions": ("tests/sessions", []),
     "schedules": ("tests/schedules", []),
 }
 # A library that only such programs use, and where its sources are.
