@@ -81,6 +81,13 @@ def includes_of_files(count: int) -> list[Command]:
     return [*files, put("s/BUILD", f"x = glob({names})\n"), load("s")]
 
 
+def includes_with_a_star(count: int) -> list[Command]:
+    """A glob with so many includes that end with a star, in a directory of as many files."""
+    files = [put(f"s/f{it}", "") for it in range(count)]
+    names = f'["f" + str(i) + "*" for i in range({count})]'
+    return [*files, put("s/BUILD", f"x = glob({names})\n"), load("s")]
+
+
 def globs(count: int) -> list[Command]:
     """So many globs with one include each."""
     text = f'x = [0 for i in range({count}) if glob(["a" + str(i)])]\n'
@@ -174,6 +181,7 @@ GROWTHS: dict[str, tuple[Callable[[int], list[Command]], int, str]] = {
     "includes of a glob": (includes, 16_384, EMPTY),
     "includes of a glob that are files": (includes_of_files, 32_768, EMPTY),
     "includes of a glob in descending order": (includes_from_the_last, 16_384, EMPTY),
+    "includes of a glob with stars": (includes_with_a_star, 16_384, EMPTY),
     "globs of one include": (globs, 3_000, EMPTY),
     "globs of includes that have answers": (answered_globs, 16_384, EMPTY),
     "globs of a large evaluation": (globs_of_a_large_evaluation, 3_000, EMPTY),

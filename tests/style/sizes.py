@@ -27,7 +27,7 @@ LONG = {
 }
 
 # The crates that are larger, and how many lines of code they may have.
-LARGE = {"evaluator_frames": 3_400, "loader": 1_690}
+LARGE = {"evaluator_frames": 3_400}
 
 # The lines of a source that are no code: imports, comments and empty lines.
 NO_CODE = re.compile(r"(?ms)^ *(?:pub )?(?:ghost )?use [^;]*;\n|^ *//[^\n]*\n|^ *\n")

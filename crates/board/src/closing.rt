@@ -46,9 +46,9 @@ impl<R: Rules> Board<R> {
             (slots_items result.closed.slots) }
         ensures shut { All (λ h. h.seat.me.0.shut ≡ true → host.seat.me.0.shut ≡ true) hands.items }
     {
-        let Host { mut seat } = host;
+        let Host { mut seat, .. } = host;
         while let Some(hand) = hands.pop() {
-            let Hand { seat: other } = hand;
+            let Hand { seat: other, .. } = hand;
             self.table.shared.join_seat::<Retire>(&mut seat, other);
         }
         hands.destroy_empty();

@@ -1,10 +1,14 @@
 //! How a board is opened.
-ghost use Rattle.std.specs.Prelude.{◌≡◌, All, length, IfOk, IsErrOf};
+ghost use Rattle.std.specs.Prelude.{◌≡◌, ℕ, All, length, IfOk, IsErrOf};
+ghost use mathlib.Core.Option.{some};
+ghost use lib.ListN.{get_elem?};
 ghost use Rattle.board.specs.declared.opening.OpenError.TheVariants as open_error;
+ghost use Rattle.board.specs.Orders.{first_of};
 ghost use Rattle.board.specs.Places.{IsNewHost, IsNewHand, IsOutOfRange, IsInRange};
 ghost use Rattle.base_types.specs.Refusals.{memory};
 
 use crate::board::{Board, Hand, Host};
+use crate::looking::first_place;
 use crate::table_rule::Enlist;
 use atomic_table::Table;
 use base_types::Memory;
@@ -33,8 +37,9 @@ impl From<AllocError> for OpenError {
 }
 
 impl<R: Rules> Board<R> {
-    /// Opens a board with this many places, and returns its host and this many hands. Returns `Range` exactly if there
-    /// are not 1 to 64 places and 1 to 16 hands, and `Memory` if an allocation fails.
+    /// Opens a board with this many places, and returns its host and this many hands, which begin to look for jobs at
+    /// places that lie as far apart as they can. Returns `Range` exactly if there are not 1 to 64 places and 1 to 16
+    /// hands, and `Memory` if an allocation fails.
     pub fn open(
         alloc: Global,
         capacity: usize,
@@ -48,6 +53,8 @@ impl<R: Rules> Board<R> {
             made.1.seat) }
         ensures hands { IfOk result (λ made. (length made.2.items ≡ hands)
             × All (λ h. IsNewHand made.0.table.shared.table_id h.seat) made.2.items) }
+        ensures places { IfOk result (λ made. (made.1.cleared ≡ 0) × ((k : ℕ) (h : _)
+            → get_elem? made.2.items k ≡ some h → h.home ≡ first_of capacity hands k)) }
     {
         if capacity == 0 || capacity > 64 || hands == 0 || hands > 16 {
             return Err(OpenError::Range);
@@ -66,10 +73,12 @@ impl<R: Rules> Board<R> {
                 return Err(OpenError::from(error));
             }
         };
-        for _ in 0..hands {
+        for number in 0..hands {
             let hand = table.shared.split_seat::<Enlist>(&mut seat);
-            list.push_reserved(Hand { seat: hand });
+            let home = first_place(capacity, hands, number);
+            list.push_reserved(Hand { seat: hand, home });
         }
-        Ok((Board { table, capacity }, Host { seat }, list))
+        let host = Host { seat, cleared: 0 };
+        Ok((Board { table, capacity }, host, list))
     }
 }

@@ -8,7 +8,7 @@ use Rattle.syntax_tree.specs.Tree.{Ex, Exs, Bound}
 
 -- a value that is made counts for so many parts
 abbrev pub made_weight : ℕ
-made_weight = 512
+made_weight = 128
 
 abbrev mutual
   pub weight : Ex → ℕ
@@ -39,7 +39,7 @@ abbrev mutual
 
 -- less than nine values, or less than so many parts
 abbrev pub most_weight : ℕ
-most_weight = 4607
+most_weight = 1151
 
 abbrev pub is_light : ℕ → Bool
 is_light n = nat_le n most_weight

@@ -11,10 +11,10 @@ use std::sync::Arc;
 use syntax_tree::Expr;
 
 // What the making of a value weighs: as much as so many parts.
-const MADE: u64 = 512;
+const MADE: u64 = 128;
 
 // At most so much is evaluated at once: eight values and the parts between them.
-const MOST_WEIGHT: u64 = 4607;
+const MOST_WEIGHT: u64 = 1151;
 
 // Returns whether an expression is a function that every file has, where no block and no file has its name.
 fn is_plain(scope: &Scope<'_>, e: &Expr) -> bool

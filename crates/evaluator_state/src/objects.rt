@@ -84,27 +84,27 @@ pub fn items(heap: &Heap, a: Val) -> Result<Vec<Val>, Halt>
 }
 
 /// Marks a list or dictionary as iterated, and charges the copy of its members that a loop iterates over.
+#[tactic(auto, using(values_heap::proofs::Iterations::one_more))]
 pub fn lock(heap: &mut Heap, a: Val) -> Result<(), Halt>
     ensures says { Says (locks a (store_of heap.old)) result (store_of heap.new) }
     ensures steps { heap.new.steps ≡ heap.old.steps }
 {
     if let Val::At(place) = a {
         heap.charge_copy(place)?;
-        heap.iterated.insert(0, place)?;
+        heap.iterated.push(place)?;
     }
     Ok(())
 }
 
 /// Ends the iteration that began last.
+#[tactic(auto, using(values_heap::proofs::Iterations::one_less))]
 pub fn unlock(heap: &mut Heap, a: Val)
     ensures says { unlocks a (store_of heap.old) ≡ o.gives tt (store_of heap.new) }
     ensures steps { heap.new.steps ≡ heap.old.steps }
 {
     if let Val::At(place) = a {
         heap.refund_copy(place);
-        if !heap.iterated.is_empty() {
-            heap.iterated.remove(0);
-        }
+        heap.iterated.pop();
     }
 }
 

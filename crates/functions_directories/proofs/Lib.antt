@@ -10,5 +10,6 @@ pub mod LookupValue
 pub mod Lookups
 pub mod Names
 pub mod PossibleNames
+pub mod FrontNames
 pub mod NamesInOrder
 pub mod Steps

@@ -25,7 +25,7 @@ not_double [] h = refl
 not_double (b ∷ f) h = ap (λ x. x && bytes_eq f (42 ∷ [])) (not-true (is_star b) (and_parts (not (is_star b)) (is_starless f) h).0)
 
 -- it matches the name that is its text, and no other
-plain_segment : (f x : List ℕ) → is_starless f ≡ true → segment_matches f x ≡ bytes_eq f x
+pub plain_segment : (f x : List ℕ) → is_starless f ≡ true → segment_matches f x ≡ bytes_eq f x
 plain_segment [] [] h = refl
 plain_segment [] (c ∷ x) h = refl
 plain_segment (b ∷ f) [] h = ap (λ t. cond t (some_end (segment_matches f) []) false) (not-true (is_star b) (and_parts (not (is_star b)) (is_starless f) h).0)
@@ -41,7 +41,7 @@ failed true b h e = absurd (false≢true (sym e ∙ h refl))
 failed false b h e = refl
 
 -- the names that pass one test are among those that pass the other
-filter_within : (p q : List ℕ → Bool) → ((x : List ℕ) → p x ≡ true → q x ≡ true) → (xs : List (List ℕ)) → filter p (filter q xs) ≡ filter p xs
+pub filter_within : (p q : List ℕ → Bool) → ((x : List ℕ) → p x ≡ true → q x ≡ true) → (xs : List (List ℕ)) → filter p (filter q xs) ≡ filter p xs
 filter_within p q h [] = refl
 filter_within p q h (x ∷ xs) =
     elim (q x) as (λ t. q x ≡ t → filter p (cond t (x ∷ filter q xs) (filter q xs)) ≡ cond (p x) (x ∷ filter p xs) (filter p xs)) [
@@ -49,12 +49,12 @@ filter_within p q h (x ∷ xs) =
       | false ↦ λ o. filter_within p q h xs ∙ sym (ap (λ t. cond t (x ∷ filter p xs) (filter p xs)) (failed (p x) (q x) (h x) o))
     ] refl
 
-never : (b : Bool) → b && false ≡ false
+pub never : (b : Bool) → b && false ≡ false
 never true = refl
 never false = refl
 
 -- what is asked for is matched
-matched : (a s d e m : Bool) → a ≡ false → (a || s && m) || d && (e && m) ≡ true → m ≡ true
+pub matched : (a s d e m : Bool) → a ≡ false → (a || s && m) || d && (e && m) ≡ true → m ≡ true
 matched a s d e true plain h = refl
 matched true s d e false plain h = absurd (false≢true (sym plain))
 matched false s d e false plain h = sym (ap (λ x. x || d && (e && false)) (never s) ∙ ap (λ x. d && x) (never e) ∙ never d) ∙ h

@@ -8,3 +8,4 @@ pub mod NodeValues
 pub mod Replies
 pub mod TurnLaws
 pub mod Turns
+pub mod Fronts

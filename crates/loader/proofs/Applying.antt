@@ -3,8 +3,8 @@ use Rattle.std.proofs.Common.{◌≡◌, ◌∙◌, ap, sym, subst, refl, ℕ, �
 use Rattle.filetree.specs.Files.{Files}
 use Rattle.keys.specs.declared.key.Key.{Key}
 use Rattle.node.specs.Graphs.{GraphView, record_at, IsTouched, AreReached}
-use Rattle.loader.specs.State.{Edit, files_refusal, or_version_refusal, refusal_of, version_limit}
-use Rattle.loader.specs.Sessions.{SessionView, files_of, state_of}
+use Rattle.loader_answers.specs.State.{Edit, files_refusal, or_version_refusal, refusal_of, version_limit}
+use Rattle.loader_answers.specs.Sessions.{SessionView, files_of, state_of}
 
 -- no refusal by the files, and none by the version
 pub not_refused : (edit : Edit) (h : SessionView) (tree : Files) → tree ≡ files_of h → files_refusal edit tree ≡ None → h.graph.version < version_limit → refusal_of edit (state_of h) ≡ None

@@ -17,10 +17,10 @@ use Rattle.node.proofs.Lists.{some_is, none_some, true_false}
 use Rattle.round_nodes.specs.Invariants.{Past, IsRunOf}
 use Rattle.round_nodes.specs.declared.run.Run.{Run}
 use Rattle.round.specs.Call.{IsCall}
-use Rattle.loader.specs.Journal.{Evaluation, leaves, IsSettledBy, IsLastSettled, by_newest, by_earlier, MayRun, first_run, run_again, MayBeRead, first_read, read_again, TakesTurns, IsItemOf, MissesNone, AreInOrder, AreItemsOf}
-use Rattle.loader.specs.GraphLinks.{Stays, IsLinked}
+use Rattle.loader_answers.specs.Journal.{Evaluation, leaves, IsSettledBy, IsLastSettled, by_newest, by_earlier, MayRun, first_run, run_again, MayBeRead, first_read, read_again, TakesTurns, IsItemOf, MissesNone, AreInOrder, AreItemsOf}
+use Rattle.loader_answers.specs.GraphLinks.{Stays, IsLinked}
 use Rattle.loader.proofs.Groups.{asked_recorded, recorded_asked}
-use Rattle.loader.proofs.Linking.{same_at, stays_now, read_plain}
+use Rattle.loader_answers.proofs.Linking.{same_at, stays_now, read_plain}
 
 -- a key with a clean record is settled
 settled_apart : {o : Option (Record Key Value)} {s : Record Key Value} → o ≡ Some s → s.dirty ≡ false → present o ≡ None → ⊥

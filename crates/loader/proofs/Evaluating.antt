@@ -9,9 +9,9 @@ use Rattle.round.specs.Call.{Calls}
 use Rattle.keys.specs.declared.key.Key.{Key}
 use Rattle.round_nodes.specs.declared.run.Run.{Run}
 use Rattle.loader_commands.specs.Commands.{Request}
-use Rattle.loader.specs.Journal.{Evaluation}
-use Rattle.loader.specs.Sessions.{SessionView, IsConsistent, files_of, state_of}
-use Rattle.loader.specs.Effects.{AreSettled, Performs, Evaluates, EvaluatesEach, StopsAfter, StopsIn, StopsRequest, at_version, evaluations, request_roots, later_roots}
+use Rattle.loader_answers.specs.Journal.{Evaluation}
+use Rattle.loader_answers.specs.Sessions.{SessionView, IsConsistent, files_of, state_of}
+use Rattle.loader_answers.specs.Effects.{AreSettled, Performs, Evaluates, EvaluatesEach, StopsAfter, StopsIn, StopsRequest, at_version, evaluations, request_roots, later_roots}
 
 -- a call of the keys is an evaluation of them
 pub evaluates : (version : ℕ) (roots keys : List Key) (old new : SessionView) (runs : List Run) → version ≡ old.graph.version → roots ≡ keys → (new.began ≡ old.began) × (new.edits ≡ old.edits)

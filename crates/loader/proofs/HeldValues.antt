@@ -15,14 +15,14 @@ use Rattle.round_nodes.specs.declared.run.Run.{Run}
 use Rattle.round_nodes.proofs.Wholes.{unsettled_not_clean}
 use Rattle.round_nodes.specs.Invariants.{Past, IsSince}
 use Rattle.round.specs.Call.{Calls, IsCall}
-use Rattle.loader.specs.State.{Edit}
-use Rattle.loader.specs.Journal.{Evaluation}
-use Rattle.loader.specs.Effects.{Effect, nothing, edited, asked, Evaluates, Performs}
-use Rattle.loader.specs.Holding.{held_package, is_held, is_later, changed_at, has_changed}
+use Rattle.loader_answers.specs.State.{Edit}
+use Rattle.loader_answers.specs.Journal.{Evaluation}
+use Rattle.loader_answers.specs.Effects.{Effect, nothing, edited, asked, Evaluates, Performs}
+use Rattle.loader_answers.specs.Holding.{held_package, is_held, is_later, changed_at, has_changed}
 use Rattle.loader.specs.HoldingLaws.{LeadsTo, stays, moves, UnchangedIsEqual}
-use Rattle.loader.specs.Sessions.{SessionView, IsConsistent}
+use Rattle.loader_answers.specs.Sessions.{SessionView, IsConsistent}
 use Rattle.loader.proofs.Calling.{past_of}
-use Rattle.loader.proofs.Histories.{last_files, history_from, files_from, paths_from}
+use Rattle.loader_answers.proofs.Histories.{last_files, history_from, files_from, paths_from}
 
 -- the record of a key that had a known value at version n: the value is still known, or the record is later now, and
 -- the value is equal or changed after n

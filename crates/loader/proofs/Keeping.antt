@@ -16,14 +16,14 @@ use Rattle.node.specs.Graphs.{GraphView, record_at}
 use Rattle.round_nodes.specs.TurnCounts.{turns_of}
 use Rattle.round_nodes.specs.declared.run.Run.{Run}
 use Rattle.round.specs.Call.{Calls}
-use Rattle.loader.specs.State.{State, start, Edit}
-use Rattle.loader.specs.Sessions.{SessionView, IsHistory, IsConsistent, state_of, paths_of, files_at, paths_at}
-use Rattle.loader.specs.Answers.{line_state, state_after}
-use Rattle.loader.specs.Journal.{Evaluation}
-use Rattle.loader.specs.Effects.{Effect, nothing, edited, asked, line_effect, effects, edits_in, and_later, requests_in, Evaluates, EvaluatesEach, Performs}
-use Rattle.loader.specs.GraphLinks.{IsToldBy}
+use Rattle.loader_answers.specs.State.{State, start, Edit}
+use Rattle.loader_answers.specs.Sessions.{SessionView, IsHistory, IsConsistent, state_of, paths_of, files_at, paths_at}
+use Rattle.loader_answers.specs.Answers.{line_state, state_after}
+use Rattle.loader_answers.specs.Journal.{Evaluation}
+use Rattle.loader_answers.specs.Effects.{Effect, nothing, edited, asked, line_effect, effects, edits_in, and_later, requests_in, Evaluates, EvaluatesEach, Performs}
+use Rattle.loader_answers.specs.GraphLinks.{IsToldBy}
 use Rattle.loader.specs.LineJournal.{IsKept, IsJournalOf}
-use Rattle.loader.proofs.Histories.{history_before, history_of, last_files}
+use Rattle.loader_answers.proofs.Histories.{history_before, history_of, last_files}
 use Rattle.loader.proofs.Calling.{past_of}
 use Rattle.loader.proofs.Telling.{told_edit, IsBegun, begins, begun_call, ends}
 

@@ -5,9 +5,9 @@ use Rattle.loader_commands.specs.Commands.{Command, Request, ask, data_of, comma
 use Rattle.base_lines.specs.Lines.{is_too_long}
 use Rattle.round_nodes.specs.declared.run.Run.{Run}
 use Rattle.serde_json.specs.Written.{compact_text}
-use Rattle.loader.specs.Answers.{refusal_reply, IsAnswerOf, IsAnswerIf, IsRequestAnswer, Tells, state_if}
-use Rattle.loader.specs.Effects.{Performs, nothing, effect_if, request_effect}
-use Rattle.loader.specs.Sessions.{SessionView, state_of, files_of}
+use Rattle.loader_answers.specs.Answers.{refusal_reply, IsAnswerOf, IsAnswerIf, IsRequestAnswer, Tells, state_if}
+use Rattle.loader_answers.specs.Effects.{Performs, nothing, effect_if, request_effect}
+use Rattle.loader_answers.specs.Sessions.{SessionView, state_of, files_of}
 use Rattle.loader.specs.LineAnswers.{AnswersLine}
 
 -- a line that is too long

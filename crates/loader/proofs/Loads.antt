@@ -7,10 +7,10 @@ use Rattle.loader_commands.specs.Refusals.{request_refusal}
 use Rattle.round_nodes.specs.declared.run.Run.{Run}
 use Rattle.shelf.specs.declared.publish.Publish.{Publish}
 use Rattle.shelf.specs.Lists.{then_published}
-use Rattle.loader.specs.Effects.{Performs, StopsAfter, evaluations, unless_refused, request_effect, request_roots}
-use Rattle.loader.specs.Sessions.{SessionView}
-use Rattle.loader.specs.State.{State}
-use Rattle.loader.specs.Publishing.{Entries, AreEntries, Publishes, names_unless, names_to_publish}
+use Rattle.loader_answers.specs.Effects.{Performs, StopsAfter, evaluations, unless_refused, request_effect, request_roots}
+use Rattle.loader_answers.specs.Sessions.{SessionView}
+use Rattle.loader_answers.specs.State.{State}
+use Rattle.loader_answers.specs.Publishing.{Entries, AreEntries, Publishes, names_unless, names_to_publish}
 
 pub none_left : (o : Option ℕ) → is_some o ≡ false → o ≡ None
 none_left None e = refl

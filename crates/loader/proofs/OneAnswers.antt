@@ -12,8 +12,8 @@ use Rattle.loader_replies.specs.Answers.{packages_data}
 use Rattle.serde_json.specs.Data.{Data}
 use Rattle.loader_commands.specs.Commands.{Command, change, ask, Request, find, load, module_of, under, data_of, command_of}
 use Rattle.loader_commands.specs.Refusals.{request_refusal, module_label}
-use Rattle.loader.specs.State.{State, start}
-use Rattle.loader.specs.Answers.{package_shown, module_shown, IsPackageShown, ArePackagesShown, IsModuleShown, IsValueOf, IsUnlessRefused, IsAnswerTo, IsAnswerIf, IsAnswerOf, AreAnswers, line_state, state_after, answer_text, texts}
+use Rattle.loader_answers.specs.State.{State, start}
+use Rattle.loader_answers.specs.Answers.{package_shown, module_shown, IsPackageShown, ArePackagesShown, IsModuleShown, IsValueOf, IsUnlessRefused, IsAnswerTo, IsAnswerIf, IsAnswerOf, AreAnswers, line_state, state_after, answer_text, texts}
 use Rattle.loader.specs.Service.{IsBeginning, IsPart, Stopped, nothing, of_next}
 use Rattle.loader.specs.Laws.{OneAnswer, OneAnswerEach, OneOutput, StopsInOutput}
 

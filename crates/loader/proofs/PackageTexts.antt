@@ -15,12 +15,12 @@ use Rattle.loader_commands.specs.Commands.{load}
 use Rattle.loader_commands.specs.Refusals.{request_refusal}
 use Rattle.serde_json.specs.Written.{compact_text}
 use Rattle.loader_replies.specs.Answers.{packages_data}
-use Rattle.loader.specs.Answers.{IsRequestAnswer, Tells}
-use Rattle.loader.specs.Effects.{AreSettled}
-use Rattle.loader.specs.KeyAnswers.{package_reply}
-use Rattle.loader.specs.Publishing.{Entries, AreEntries, HaveTextsHeld, TellPackages, names_in, each_of, package_held, text_held}
-use Rattle.loader.proofs.Requests.{load_accepted, load_told, text_told}
-use Rattle.loader.proofs.Naming.{are_each}
+use Rattle.loader_answers.specs.Answers.{IsRequestAnswer, Tells}
+use Rattle.loader_answers.specs.Effects.{AreSettled}
+use Rattle.loader_answers.specs.KeyAnswers.{package_reply}
+use Rattle.loader_answers.specs.Publishing.{Entries, AreEntries, HaveTextsHeld, TellPackages, names_in, each_of, package_held, text_held}
+use Rattle.loader_answers.proofs.Requests.{load_accepted, load_told, text_told}
+use Rattle.loader_answers.proofs.Naming.{are_each}
 
 is_named : (names : List (List ℕ)) (name : List ℕ) → list_all is_package_name names ≡ true → In name names → is_package_name name ≡ true
 is_named (n ∷ ns) name h first = (and_parts (is_package_name n) (list_all is_package_name ns) h).0

@@ -4,7 +4,7 @@ use Rattle.std.specs.Prelude.{Option}
 use Rattle.std.specs.Io.KnownBytes.{Appends, Consumes, IsAtEnd, Keeps}
 use Rattle.base_lines.specs.Devices.{EndsWithNothing}
 use Rattle.base_lines.specs.Lines.{lines_of}
-use Rattle.loader.specs.State.{start}
+use Rattle.loader_answers.specs.State.{start}
 use Rattle.loader.specs.Service.{Stopped}
 use Rattle.loader.specs.Programs.{AnswersPart}
 use Rattle.loader.proofs.OneAnswers.{stop_begins}

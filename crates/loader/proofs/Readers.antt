@@ -5,10 +5,10 @@ use Rattle.engine_semantics.specs.Value.{In, first, after}
 use Rattle.shelf.specs.declared.publish.Publish.{Publish}
 use Rattle.shelf.specs.Lists.{same_text, or_else, last_text, entry, then_published}
 use Rattle.shelf.proofs.Texts.{each_name_has_its_text}
-use Rattle.loader.specs.Answers.{IsPackageShown, Tells}
-use Rattle.loader.specs.Publishing.{has_name}
+use Rattle.loader_answers.specs.Answers.{IsPackageShown, Tells}
+use Rattle.loader_answers.specs.Publishing.{has_name}
 use Rattle.loader.specs.PublishingLaws.{PublishIsFound, PublishTellsTheFiles, FoundTellsTheFiles}
-use Rattle.loader.proofs.Naming.{one_text, name_in, has_in, in_left, in_more}
+use Rattle.loader_answers.proofs.Naming.{one_text, name_in, has_in, in_left, in_more}
 use Rattle.loader.proofs.Telling.{from_map}
 
 lacks : (name : List ℕ) (names : List (List ℕ)) → ¬ In name names → has_name name names ≡ false

@@ -11,9 +11,9 @@ use Rattle.loader_replies.specs.Answers.{packages_data}
 use Rattle.serde_json.specs.Data.{Data}
 use Rattle.loader_commands.specs.Commands.{Command, change, ask, Request, find, load, module_of, under, data_of, command_of}
 use Rattle.loader_commands.specs.Refusals.{request_refusal, refusal_without, module_label}
-use Rattle.loader.specs.State.{State, refusal_of}
+use Rattle.loader_answers.specs.State.{State, refusal_of}
 use Rattle.loader.specs.Laws.{SomeAnswer, SomeAnswerEach}
-use Rattle.loader.specs.Answers.{one_member, build_text, refusal_reply, edit_answer, package_shown, module_shown, ArePackagesShown, IsModuleShown, IsValueOf, IsUnlessRefused, IsAnswerTo, IsAnswerIf, IsAnswerOf, line_state}
+use Rattle.loader_answers.specs.Answers.{one_member, build_text, refusal_reply, edit_answer, package_shown, module_shown, ArePackagesShown, IsModuleShown, IsValueOf, IsUnlessRefused, IsAnswerTo, IsAnswerIf, IsAnswerOf, line_state}
 
 packages_there : (files : Files) (names : List (List ℕ)) → (ds : List Data) × ArePackagesShown files names ds
 packages_there files [] = ([], tt)

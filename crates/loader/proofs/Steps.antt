@@ -6,13 +6,13 @@ use Rattle.base_lines.specs.Lines.{lines_of, Took}
 use Rattle.base_lines.proofs.Cuts.{lines_of_one, lines_of_break, whole_append, whole_break, empty_of}
 use Rattle.round_nodes.specs.TurnCounts.{turns_of}
 use Rattle.round_nodes.specs.declared.run.Run.{Run}
-use Rattle.loader.specs.State.{State, start}
-use Rattle.loader.specs.Sessions.{SessionView, IsConsistent, state_of}
-use Rattle.loader.specs.Effects.{line_effect, Performs}
+use Rattle.loader_answers.specs.State.{State, start}
+use Rattle.loader_answers.specs.Sessions.{SessionView, IsConsistent, state_of}
+use Rattle.loader_answers.specs.Effects.{line_effect, Performs}
 use Rattle.loader.specs.LineJournal.{IsKept, IsJournalOf}
 use Rattle.loader.proofs.Keeping.{kept_line, kept_journal, kept_at_start}
 use Rattle.serde_json.specs.Data.{Data}
-use Rattle.loader.specs.Answers.{IsAnswer, AreAnswers, answer_text, texts, line_state, state_after}
+use Rattle.loader_answers.specs.Answers.{IsAnswer, AreAnswers, answer_text, texts, line_state, state_after}
 use Rattle.loader.specs.Service.{Served, Stopped, IsPart, Between, After, nothing, of_next}
 
 state_append : (s : State) (ls ms : List (List ℕ)) → state_after s (ls ++ ms) ≡ state_after (state_after s ls) ms

@@ -13,9 +13,9 @@ use Rattle.node.specs.Laws.{IsConsistentFor}
 use Rattle.round_nodes.specs.TurnCounts.{turns_of}
 use Rattle.round_nodes.specs.declared.run.Run.{Run}
 use Rattle.round.specs.Call.{IsCall}
-use Rattle.loader.specs.Journal.{Evaluation, turned_onto, keys_of, place_of, leaves, AreItemsOf, AreItemsOfEach, AreItems, IsJournal}
-use Rattle.loader.specs.GraphLinks.{all_turned, IsLinked, IsToldBy}
-use Rattle.loader.proofs.Linking.{linked_edit}
+use Rattle.loader_answers.specs.Journal.{Evaluation, turned_onto, keys_of, place_of, leaves, AreItemsOf, AreItemsOfEach, AreItems, IsJournal}
+use Rattle.loader_answers.specs.GraphLinks.{all_turned, IsLinked, IsToldBy}
+use Rattle.loader_answers.proofs.Linking.{linked_edit}
 use Rattle.loader.proofs.Calling.{past_of, linked_call, items_call, item_now, item_late, item_of}
 
 pub turned_more : (earlier requests : List Evaluation) (request : Evaluation) → turned_onto earlier (requests ++ request ∷ []) ≡ request ∷ turned_onto earlier requests

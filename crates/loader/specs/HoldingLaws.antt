@@ -3,9 +3,9 @@ use Rattle.std.specs.Prelude.{◌≡◌, ℕ, ◌≤◌, List, Some, true, false
 use Rattle.keys.specs.declared.key.Key.TheVariants as key
 use Rattle.keys.specs.declared.value.Value.{Value}
 use Rattle.round_nodes.specs.declared.run.Run.{Run}
-use Rattle.loader.specs.Effects.{Effect, Performs}
-use Rattle.loader.specs.Holding.{held_package, is_held, has_changed}
-use Rattle.loader.specs.Sessions.{SessionView, IsConsistent}
+use Rattle.loader_answers.specs.Effects.{Effect, Performs}
+use Rattle.loader_answers.specs.Holding.{held_package, is_held, has_changed}
+use Rattle.loader_answers.specs.Sessions.{SessionView, IsConsistent}
 
 -- calls that end well lead from a session to another: edits, and requests
 pub data LeadsTo : SessionView → SessionView → Type 0 where

@@ -2,8 +2,8 @@
 use Rattle.std.specs.Prelude.{◌≡◌, ℕ, ◌<◌, List, [], ◌++◌}
 use Rattle.round_nodes.specs.declared.run.Run.{Run}
 use Rattle.serde_json.specs.Data.{Data}
-use Rattle.loader.specs.State.{State}
-use Rattle.loader.specs.Answers.{IsAnswer, AreAnswers}
+use Rattle.loader_answers.specs.State.{State}
+use Rattle.loader_answers.specs.Answers.{IsAnswer, AreAnswers}
 use Rattle.loader.specs.Service.{IsBeginning, Served, Stopped}
 
 -- a line has at most one reply from each state

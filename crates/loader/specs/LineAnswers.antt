@@ -6,9 +6,9 @@ use Rattle.loader_commands.specs.View.{request_seen}
 use Rattle.round_nodes.specs.declared.run.Run.{Run}
 use Rattle.round_nodes.specs.TurnCounts.{turns_of}
 use Rattle.serde_json.specs.Data.{Data}
-use Rattle.loader.specs.Answers.{IsAnswer, IsAnswerIf, Tells, answer_text, line_state, state_if}
-use Rattle.loader.specs.Effects.{Performs, effect_if, line_effect}
-use Rattle.loader.specs.Sessions.{SessionView, state_of}
+use Rattle.loader_answers.specs.Answers.{IsAnswer, IsAnswerIf, Tells, answer_text, line_state, state_if}
+use Rattle.loader_answers.specs.Effects.{Performs, effect_if, line_effect}
+use Rattle.loader_answers.specs.Sessions.{SessionView, state_of}
 use Rattle.loader.specs.declared.session.LineKind.{LineKind}
 use Rattle.loader.specs.declared.session.LineKind.TheVariants.{Refused, Edited, Request}
 

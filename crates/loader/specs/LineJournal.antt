@@ -2,11 +2,11 @@
 use Rattle.std.specs.Prelude.{◌≡◌, ℕ, List}
 use Rattle.filetree.specs.Files.{Files}
 use Rattle.round_nodes.specs.declared.run.Run.{Run}
-use Rattle.loader.specs.State.{start}
-use Rattle.loader.specs.Sessions.{SessionView, IsHistory, IsConsistent, files_at, paths_at}
-use Rattle.loader.specs.Effects.{effects, edits_in, requests_in}
-use Rattle.loader.specs.Journal.{IsJournal}
-use Rattle.loader.specs.GraphLinks.{IsToldBy}
+use Rattle.loader_answers.specs.State.{start}
+use Rattle.loader_answers.specs.Sessions.{SessionView, IsHistory, IsConsistent, files_at, paths_at}
+use Rattle.loader_answers.specs.Effects.{effects, edits_in, requests_in}
+use Rattle.loader_answers.specs.Journal.{IsJournal}
+use Rattle.loader_answers.specs.GraphLinks.{IsToldBy}
 
 -- the journal of lines: that of their requests, in the history of their accepted edits, with at most `budget` turns for
 -- all evaluations of a request

@@ -3,8 +3,8 @@
 use Rattle.std.specs.Prelude.{◌≡◌, ℕ, List, [], ◌++◌, Option, Some, IfSome, OnSome}
 use Rattle.serde_json.specs.Data.{Data}
 use Rattle.base_lines.specs.Lines.{lines_of}
-use Rattle.loader.specs.State.{start}
-use Rattle.loader.specs.Answers.{AreAnswers, texts}
+use Rattle.loader_answers.specs.State.{start}
+use Rattle.loader_answers.specs.Answers.{AreAnswers, texts}
 use Rattle.loader.specs.Service.{IsBeginning}
 
 -- The reader had this input and has nothing left. The writer has what it had, followed by the replies to the lines of

@@ -7,10 +7,10 @@ use Rattle.loader_commands.specs.declared.command.Request.{Request}
 use Rattle.shelf.specs.Shelves.{published_by, shown_by}
 use Rattle.shelf.specs.declared.keeper.Keeper.{Keeper}
 use Rattle.shelf.specs.declared.reader.Told.{Told}
-use Rattle.loader.specs.Answers.{IsRequestAnswer, Tells}
-use Rattle.loader.specs.Effects.{Performs, request_effect}
-use Rattle.loader.specs.Publishing.{Entries, AreEntries, Publishes, Shows, names_to_publish}
-use Rattle.loader.specs.Sessions.{SessionView, IsConsistent, files_of, state_of}
+use Rattle.loader_answers.specs.Answers.{IsRequestAnswer, Tells}
+use Rattle.loader_answers.specs.Effects.{Performs, request_effect}
+use Rattle.loader_answers.specs.Publishing.{Entries, AreEntries, Publishes, Shows, names_to_publish}
+use Rattle.loader_answers.specs.Sessions.{SessionView, IsConsistent, files_of, state_of}
 use Rattle.loader.specs.declared.session.Reply.{Reply}
 
 -- the text of the reply is that of an answer to the load of these names at the session's files

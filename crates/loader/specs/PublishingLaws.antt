@@ -5,8 +5,8 @@ use Rattle.engine_semantics.specs.Value.{In}
 use Rattle.filetree.specs.Files.{Files}
 use Rattle.shelf.specs.declared.publish.Publish.{Publish}
 use Rattle.shelf.specs.Lists.{entry}
-use Rattle.loader.specs.Answers.{IsPackageShown, Tells}
-use Rattle.loader.specs.Publishing.{Publishes}
+use Rattle.loader_answers.specs.Answers.{IsPackageShown, Tells}
+use Rattle.loader_answers.specs.Publishing.{Publishes}
 
 -- each text of a list is that of the package that the files mean at its version
 abbrev pub TellsTheFiles : (ℕ → Files) → List Publish → Type 0

@@ -12,9 +12,9 @@ use Rattle.round_nodes.specs.declared.run.Run.{Run}
 use Rattle.loader_commands.specs.Refusals.{request_refusal}
 use Rattle.loader_commands.specs.View.{request_seen}
 use Rattle.loader_commands.specs.declared.command.Request.{Request}
-use Rattle.loader.specs.Answers.{IsRequestAnswer, Tells}
-use Rattle.loader.specs.Effects.{AreSettled, Performs, evaluations, reply_roots, request_effect}
-use Rattle.loader.specs.Sessions.{SessionView, files_of, state_of}
+use Rattle.loader_answers.specs.Answers.{IsRequestAnswer, Tells}
+use Rattle.loader_answers.specs.Effects.{AreSettled, Performs, evaluations, reply_roots, request_effect}
+use Rattle.loader_answers.specs.Sessions.{SessionView, files_of, state_of}
 use Rattle.loader.specs.declared.session.Reply.{Reply}
 
 -- an evaluation has at least one hand, and at most 16

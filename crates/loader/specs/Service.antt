@@ -3,9 +3,9 @@ use Rattle.std.specs.Prelude.{◌≡◌, ◌⊎◌, ℕ, ◌<◌, List, [], ◌�
 use Rattle.base_lines.specs.Lines.{lines_of, IsWhole}
 use Rattle.round_nodes.specs.declared.run.Run.{Run}
 use Rattle.serde_json.specs.Data.{Data}
-use Rattle.loader.specs.State.{State, start}
-use Rattle.loader.specs.Sessions.{SessionView, state_of}
-use Rattle.loader.specs.Answers.{IsAnswer, AreAnswers, answer_text, texts, state_after}
+use Rattle.loader_answers.specs.State.{State, start}
+use Rattle.loader_answers.specs.Sessions.{SessionView, state_of}
+use Rattle.loader_answers.specs.Answers.{IsAnswer, AreAnswers, answer_text, texts, state_after}
 use Rattle.loader.specs.LineJournal.{IsKept, IsJournalOf}
 
 abbrev pub IsBeginning : List ℕ → List ℕ → Type 0

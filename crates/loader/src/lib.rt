@@ -1,14 +1,11 @@
 //! Lines of commands in, lines of replies out: a resident loader of packages. Begin at `session.rt` and
-//! `specs/Effects.antt`.
+//! `specs/Service.antt`, and read the definitions of `loader_answers` first.
 #![tactic(auto)]
 
-mod holding;
 mod journal;
 mod laws;
 mod program;
-mod publishing;
 mod publishing_laws;
-mod request_answers;
 mod serving;
 mod session;
 mod turns;
@@ -16,12 +13,12 @@ mod workers;
 
 pub use base_lines::{DeviceError, Input, Output};
 pub use filetree::Change;
-pub use holding::Changes;
 pub use journal::{EventJournal, GhostJournal, Journal, Runs};
 pub use laws::{
     input_determines_output, lines_determine_answers, lines_have_answers,
     unchanged_packages_are_equal,
 };
+pub use loader_answers::Changes;
 pub use loader_commands::{Edit, EditError, Request};
 pub use loader_events::{Events, LineFacts, LineOutcome};
 pub use program::{ProgramEnd, run_program};

@@ -5,7 +5,7 @@ ghost use Rattle.base_lines.specs.Lines.{HoldsLine};
 ghost use Rattle.round_nodes.specs.declared.run.Run.{Run};
 ghost use Rattle.loader.specs.RequestCalls.{IsHandCount, ReturnsHands};
 ghost use Rattle.loader.specs.Service.{Served, Stopped};
-ghost use Rattle.loader.specs.ServingCalls.{AddsTurns, KeepFirsts, KeepsReader, KeepsWriter, LeavesLess, StopsLine, TakesLine};
+ghost use Rattle.loader.specs.ServingCalls.{AddsTurns, KeepFirsts, KeepsReader, KeepsWriter, Reads, StopsLine, TakesLine};
 
 use crate::journal::{EventJournal, GhostJournal, Journal, Runs};
 use crate::session::{Session, reply_to_line, reply_to_line_with};
@@ -125,14 +125,11 @@ fn serve_line<R: Input, W: Output, J: Runs>(
 ) -> Result<bool, ServeStop>
     ensures ok { IfOk result (TakesLine budget serving.old serving.new R.told reader.old reader.new
         W.held writer.old writer.new J.kept journal.old journal.new) }
-    ensures left { IfOk result (LeavesLess R.left reader.old reader.new serving.old serving.new) }
+    ensures left { IfOk result (Reads R.left R.ends reader.old reader.new serving.old serving.new) }
     ensures err { OnErr result (StopsLine budget serving.old R.ends R.told reader.old reader.new
         W.held writer.old writer.new J.kept journal.old) }
-    ensures read { IsErrOf result ServeStop.Read → R.failures reader.old < R.failures reader.new }
-    ensures write { IsErrOf result ServeStop.Write → W.failures writer.old < W.failures writer.new }
-    ensures ended { IfOk result (λ more. more ≡ false → R.ends reader.old < R.ends reader.new) }
-    ensures reader { KeepsReader R.failures R.ends R.at_first reader.old reader.new }
-    ensures writer { KeepsWriter W.failures W.at_first writer.old writer.new }
+    ensures reader { KeepsReader R.failures R.ends R.at_first reader.old reader.new result }
+    ensures writer { KeepsWriter W.failures W.at_first writer.old writer.new result }
 {
     let ended = next_line(reader, &mut serving.pending, &mut serving.line)?;
     if is_end(ended, &serving.line) {
@@ -172,14 +169,11 @@ fn serve_line_with<
         J.kept journal.old journal.new) }
     ensures ok { IfOk result (TakesLine budget serving.old serving.new R.told reader.old reader.new
         W.held writer.old writer.new J.kept journal.old journal.new) }
-    ensures left { IfOk result (LeavesLess R.left reader.old reader.new serving.old serving.new) }
+    ensures left { IfOk result (Reads R.left R.ends reader.old reader.new serving.old serving.new) }
     ensures err { OnErr result (StopsLine budget serving.old R.ends R.told reader.old reader.new
         W.held writer.old writer.new J.kept journal.old) }
-    ensures read { IsErrOf result ServeStop.Read → R.failures reader.old < R.failures reader.new }
-    ensures write { IsErrOf result ServeStop.Write → W.failures writer.old < W.failures writer.new }
-    ensures ended { IfOk result (λ more. more ≡ false → R.ends reader.old < R.ends reader.new) }
-    ensures reader { KeepsReader R.failures R.ends R.at_first reader.old reader.new }
-    ensures writer { KeepsWriter W.failures W.at_first writer.old writer.new }
+    ensures reader { KeepsReader R.failures R.ends R.at_first reader.old reader.new result }
+    ensures writer { KeepsWriter W.failures W.at_first writer.old writer.new result }
 {
     let ended = next_line(reader, &mut serving.pending, &mut serving.line)?;
     if is_end(ended, &serving.line) {

@@ -1,24 +1,21 @@
 //! The session: the present files with the graph of what was found out about them, their edits, and the replies to
 //! lines.
-ghost use Rattle.std.specs.Prelude.{◌≡◌, ◌≤◌, ◌+◌, ◌++◌, ◌∷◌, [], IfOk, OnOk, OnErr, length, string_bytes, List, ℕ, option_and_then, option_map, codes as text_codes, false};
+ghost use Rattle.std.specs.Prelude.{◌≡◌, ◌≤◌, ◌+◌, ◌++◌, ◌∷◌, [], IfOk, OnOk, OnErr, length, string_bytes, List, ℕ, option_and_then, option_map};
 ghost use Rattle.serde_json.specs.View.{view as json_view};
-ghost use Rattle.serde_json.specs.Written.{compact_text, has_float};
 ghost use Rattle.board.specs.Rule.{total};
 ghost use Rattle.engine_semantics.specs.Graph.{MarksDirty};
 ghost use Rattle.node.specs.Graphs.{record_at, IsTouched};
 ghost use Rattle.round_nodes.specs.TurnCounts.{turns_of};
 ghost use Rattle.base_lines.specs.Lines.{HoldsLine};
-ghost use Rattle.loader.specs.Answers as answers;
-ghost use Rattle.loader.specs.Effects.{StopsAfter, StopsRequest};
+ghost use Rattle.loader_answers.specs.Effects.{StopsAfter, StopsRequest};
 ghost use Rattle.loader.specs.RequestCalls.{AreReplyRoots, CallsKeys, IsAccepted, IsHandCount, IsReplyTo, ReturnsHands, RunsEvaluations, RunsRequest, SettlesAccepted, SettlesKeys, SettlesReply};
-ghost use Rattle.loader.specs.State as state;
-ghost use Rattle.loader.specs.Sessions.{SessionView, state_of, paths_of, IsConsistent};
+ghost use Rattle.loader_answers.specs.State as state;
+ghost use Rattle.loader_answers.specs.Sessions.{SessionView, state_of, paths_of, IsConsistent};
 ghost use Rattle.loader.specs.LineAnswers.{AddsLine, Begins, IsOneMore};
 ghost use Rattle.loader_commands.specs.View.{edit_seen, request_seen};
 ghost use Rattle.loader_commands.specs.Commands as commands;
 
 use crate::journal::Runs;
-use crate::request_answers::{later_roots, reply_text, roots_of};
 use crate::turns::{concat_runs, turns_left};
 use crate::workers::evaluate_with;
 use base_lines::Line;
@@ -26,7 +23,10 @@ use base_types::Memory;
 use filetree::Tree;
 use filetree::refusals::{LINE_TOO_LONG, NO_COMMAND};
 use functions::{LoadRules, Loading};
-use keys::{BuildName, Key};
+use keys::Key;
+use loader_answers::{
+    accepted_text, later_roots, refusal_text, refusal_text_at, reply_text, roots_of,
+};
 use loader_commands::{
     Command, Edit, EditError, EditLog, Request, command_of, data_of, edit_files, edited_paths,
     refusal, refusal_at_limit,
@@ -34,7 +34,7 @@ use loader_commands::{
 use loader_events::{LineFacts, LineOutcome, edit_word, request_word};
 use node::Graph;
 use round::{Run, Stop, evaluate_here};
-use serde_json::{Value, json};
+use serde_json::Value;
 use std::alloc::Global;
 use std::marker::Model;
 use std::sync::Wait;
@@ -66,7 +66,7 @@ pub struct Session {
 
 impl Model for Session {
     ghost use Rattle.std.specs.Prelude.{◌≡◌};
-    ghost use Rattle.loader.specs.Sessions.{SessionView, IsConsistent, files_of};
+    ghost use Rattle.loader_answers.specs.Sessions.{SessionView, IsConsistent, files_of};
 
     ghost Value = { SessionView };
 
@@ -345,80 +345,6 @@ impl Session {
         )?;
         Ok(done)
     }
-}
-
-/// Writes a reply as compact JSON.
-pub fn json_text(alloc: Global, answer: &Value) -> Result<String, Memory>
-    ensures { IfOk result (λ text. has_float (json_view answer.now) ≡ false → string_bytes text
-        ≡ compact_text (json_view answer.now)) }
-{
-    Ok(answer.to_string(alloc)?)
-}
-
-/// Makes the reply for a refusal.
-pub fn refused_answer(alloc: Global, n: u64) -> Result<Value, Memory>
-    ensures { IfOk result (λ value. json_view value ≡ answers.refusal_reply n) }
-{
-    Ok(json!(in alloc; {"refused": n})?)
-}
-
-fn accepted_answer(alloc: Global, version: u32) -> Result<Value, Memory>
-    ensures { IfOk result (λ value. json_view value ≡ answers.accepted_reply version) }
-{
-    Ok(json!(in alloc; {"ok": version})?)
-}
-
-/// Returns the text of the reply for a refusal.
-pub fn refusal_text(alloc: Global, n: u64) -> Result<String, Memory>
-    ensures { IfOk result (λ text. string_bytes text ≡ compact_text (answers.refusal_reply n)) }
-{
-    let answer = refused_answer(alloc, n)?;
-    json_text(alloc, &answer)
-}
-
-fn refused_at_answer(alloc: Global, at: usize, n: u64) -> Result<Value, Memory>
-    ensures { IfOk result (λ value. json_view value ≡ answers.refused_at at n) }
-{
-    Ok(json!(in alloc; {"edit": at, "refused": n})?)
-}
-
-/// Returns the text of the reply to a batch of which a change is refused, by its place among them.
-pub fn refusal_text_at(alloc: Global, at: usize, n: u64) -> Result<String, Memory>
-    ensures { IfOk result (λ text. string_bytes text ≡ compact_text (answers.refused_at at n)) }
-{
-    let answer = refused_at_answer(alloc, at, n)?;
-    json_text(alloc, &answer)
-}
-
-/// Returns the text of the reply to an edit that was made.
-pub fn accepted_text(alloc: Global, version: u32) -> Result<String, Memory>
-    ensures { IfOk result (λ text. string_bytes text ≡ compact_text (answers.accepted_reply
-        version)) }
-{
-    let answer = accepted_answer(alloc, version)?;
-    json_text(alloc, &answer)
-}
-
-// Makes the reply with a package's build file.
-fn build_answer(alloc: Global, found: Option<BuildName>) -> Result<Value, Memory>
-    ensures { IfOk result (λ value. json_view value ≡ answers.one_member (text_codes "build")
-        (answers.build_text found)) }
-{
-    match found {
-        Some(BuildName::BuildBazel) => Ok(json!(in alloc; {"build": "BUILD.bazel"})?),
-        Some(BuildName::Build) => Ok(json!(in alloc; {"build": "BUILD"})?),
-        None => Ok(json!(in alloc; {"build": null})?),
-    }
-}
-
-/// Returns the text of the reply with a package's build file.
-pub fn build_text(alloc: Global, found: Option<BuildName>) -> Result<String, Memory>
-    ensures { IfOk result
-        (λ text. string_bytes text ≡ compact_text
-        (answers.one_member (text_codes "build") (answers.build_text found))) }
-{
-    let answer = build_answer(alloc, found)?;
-    json_text(alloc, &answer)
 }
 
 // What is done for a line before anything is evaluated: it is refused, an edit is made, or it asks something about the

@@ -110,7 +110,7 @@ module _ (R S : RattleType) (g : Ghosts R.Denot S.Denot) (s : IsSend S) where
 
   -- who takes jobs from the board, and the board
   pub hand_send : IsSend (Hand.the_row R S g)
-  hand_send = declared_send (Hand.the_type R S g) (SeatSends.the_send _ _ slot_send, tt)
+  hand_send = declared_send (Hand.the_type R S g) (SeatSends.the_send _ _ slot_send, (search sendable, tt))
 
   pub board_sync : IsSync (Board.the_row R S g)
   board_sync = declared_sync (Board.the_type R S g) (search (TableSends.the_sync, slot_send, send, sync, frees) depth 20 fits 20000, (search sendable, tt))
@@ -119,12 +119,14 @@ module _ (R S : RattleType) (g : Ghosts R.Denot S.Denot) (s : IsSend S) where
   pub back_send : IsSend R → IsSend (WorkerReturn.the_row R S g)
   back_send r = declared_send (WorkerReturn.the_type R S g) (as_row_send (row_field R) r, (hand_send, tt))
 
-  -- what a worker's closure has taken: the handle to wait by, the board, the notifiers, its hand and its rules
-  pub taken_send : (T : RattleType) (name : List ℕ) (ℓ ℓ' ℓ'' : NamedLft) → IsSync (param 2 T) → IsSend R
-      → IsSend (TupleAt name ((shr_ref_field ℓ (param 2 T) tt).row ∷ (shr_ref_field ℓ' (Board.the_row R S g) tt).row ∷ (shr_ref_field ℓ'' Notifiers.the_row tt).row ∷ Hand.the_row R S g ∷ R ∷ []))
-  taken_send T name ℓ ℓ' ℓ'' t r =
+  -- what a worker's closure has taken: the handle to wait by, the board, the notifiers, its hand, its rules and its number
+  pub taken_send : (T N : RattleType) (name : List ℕ) (ℓ ℓ' ℓ'' : NamedLft) → IsSync (param 2 T) → IsSend R → IsSend N
+      → IsSend (TupleAt name ((shr_ref_field ℓ (param 2 T) tt).row ∷ (shr_ref_field ℓ' (Board.the_row R S g) tt).row ∷ (shr_ref_field ℓ'' Notifiers.the_row tt).row ∷ Hand.the_row R S g ∷ R ∷ N ∷ []))
+  taken_send T N name ℓ ℓ' ℓ'' t r n =
       let waits : RattleType = (shr_ref_field ℓ (param 2 T) tt).row in let board : RattleType = (shr_ref_field ℓ' (Board.the_row R S g) tt).row in let bells : RattleType = (shr_ref_field ℓ'' Notifiers.the_row tt).row in
       let waits_send : IsSend waits = search (t, sendable) depth 20 in let board_send : IsSend board = search (board_sync, sendable) depth 20 in
       let bells_send : IsSend bells = search (BellsSends.the_sync, sendable) depth 20 in
-      declared_send (type_at name (waits ∷ board ∷ bells ∷ Hand.the_row R S g ∷ R ∷ []))
-      (as_row_send (row_field waits) waits_send, (as_row_send (row_field board) board_send, (as_row_send (row_field bells) bells_send, (as_row_send (row_field (Hand.the_row R S g)) hand_send, (as_row_send (row_field R) r, tt)))))
+      declared_send (type_at name (waits ∷ board ∷ bells ∷ Hand.the_row R S g ∷ R ∷ N ∷ [])) (
+        as_row_send (row_field waits) waits_send,
+        (as_row_send (row_field board) board_send, (as_row_send (row_field bells) bells_send, (as_row_send (row_field (Hand.the_row R S g)) hand_send, (as_row_send (row_field R) r, (as_row_send (row_field N) n, tt))))),
+      )

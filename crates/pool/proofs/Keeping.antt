@@ -8,7 +8,7 @@ use Rattle.atomic_table.proofs.Lists.{set_here, set_else}
 use Rattle.board.specs.Places.{opened, AllOut, IsLeft, Leaves, count_in, weight_in, Looked, HasPosted, HasCollected}
 use Rattle.board.specs.Rule.{total}
 use Rattle.board.specs.declared.view.View.{View}
-use Rattle.board.proofs.Looks.{looked_same}
+use Rattle.board.proofs.Looks.{looked_same, looked_by_same}
 use Rattle.board.specs.declared.view.Entry.{Entry}
 use Rattle.board.proofs.Moves.{total_set, total_snoc, below}
 use Rattle.board.proofs.Taking.{there}
@@ -68,11 +68,11 @@ module _ {R S : Type 0} where
       not_both o.node (subst (λ (m : Node). m.phase ≡ phase.Running) (some_is (sym n.1 ∙ ap (node_at round.table.nodes) e ∙ o.there)) n.2) o.out
 
   -- a job was handed out and posted
-  pub given : (graph : GraphView) (before later : Round R S) (v w : View JobView Outcome) (p : ℕ) (job : JobView) (key : Key) → AgreesWith graph later → KeepsAllJobs graph (round_view before) (round_view later)
-      → HandsOut graph key (round_view before) (round_view later) (Some job) → HasPosted v p job w
+  pub given : (n cleared : ℕ) (graph : GraphView) (before later : Round R S) (v w : View JobView Outcome) (p : ℕ) (job : JobView) (key : Key) → AgreesWith graph later → KeepsAllJobs graph (round_view before) (round_view later)
+      → HandsOut graph key (round_view before) (round_view later) (Some job) → HasPosted n cleared v p job w
       → (roots : List Key) (own places hands out handed : ℕ) → IsServing graph before v roots own places hands out handed → IsServing graph later w roots own places hands (out + 1) (handed + 1)
-  given graph before later v w p job key beside others h did roots own places hands out handed s =
-      let u = did.1.0 in let same = looked_same 0 p v u did.1.1 in let was : get_elem? v.out p ≡ some None = did.0 in
+  given n cleared graph before later v w p job key beside others h did roots own places hands out handed s =
+      let u = did.1.0 in let same = looked_by_same _ 0 did.1.1.0 v u did.1.1.3 in let was : get_elem? v.out p ≡ some None = did.0 in
       let out_is : w.out ≡ set v.out p (Some job) = ap (λ (z : View JobView Outcome). z.out) did.1.2 ∙ ap (λ (l : List (Option JobView)). set l p (Some job)) same.0 in
       let here : get_elem? w.out p ≡ some (Some job) = ap (λ (l : List (Option JobView)). get_elem? l p) out_is ∙ set_here v.out p (Some job) (below v.out p None was) in
       let before_at : (q : ℕ) → q ≢ p → (found : JobView) → get_elem? w.out q ≡ some (Some found) → get_elem? v.out q ≡ some (Some found) =
@@ -237,8 +237,8 @@ all_left v items long left = total_same count_in one_out items v.out (sym long)
     (λ p x o e f. let l = left p o f in left_one o x (subst (Leaves (λ t. t.asked) o) (sym (some-injective x l.0 (sym e ∙ l.1))) l.2))
 
 -- a host that posted, looked in vain or collected has as many places and hands
-pub posted_same : (v w : View JobView Outcome) (p : ℕ) (job : JobView) → HasPosted v p job w → IsSameHost v w
-posted_same v w p job did = let u = did.1.0 in let same = looked_same 0 p v u did.1.1 in (
+pub posted_same : (n cleared : ℕ) (v w : View JobView Outcome) (p : ℕ) (job : JobView) → HasPosted n cleared v p job w → IsSameHost v w
+posted_same n cleared v w p job did = let u = did.1.0 in let same = looked_by_same _ 0 did.1.1.0 v u did.1.1.3 in (
   ap (λ (z : View JobView Outcome). length z.out) did.1.2 ∙ (length-set u.out p (Some job) ∙ ap length same.0),
   ap (λ (z : View JobView Outcome). z.hands) did.1.2 ∙ same.3,
   ap (λ (z : View JobView Outcome). z.answers) did.1.2 ∙ same.1,

@@ -60,7 +60,7 @@ fn wake_or_spawn<'s, E, R: Rules + Send + Drop + 's, T: Threads + Wait + Sync>(
 {
     let workers = crew.workers.len();
     if workers < out && !crew.rules.is_empty() && has_processor(context.rt, workers, most) {
-        return spawn_worker(scope, context, host, crew);
+        return spawn_worker(scope, context, host, crew, workers);
     }
     context.notifiers.jobs.notify_for(out, workers);
     Ok(())

@@ -8,6 +8,7 @@ mod evaluations;
 mod first_turns;
 mod host;
 mod host_state;
+mod job_notifier;
 mod notifier;
 mod steps;
 mod worker;

@@ -50,13 +50,15 @@ pub(crate) fn make_posted<R: Rules>(board: &Board<R>, hand: &mut Hand<R>, rules:
     }
 }
 
-// Takes jobs and answers with their turns, until the board is shut. It sleeps if it finds none.
+// Takes jobs and answers with their turns, until the board is shut. It sleeps if it finds none, by the number of the
+// worker.
 pub(crate) fn worker_loop<R: Rules, W: Wait>(
     rt: &W,
     board: &Board<R>,
     notifiers: &Notifiers,
     mut hand: Hand<R>,
     mut rules: R,
+    number: usize,
 ) -> WorkerReturn<R>
     requires { IsNewHand board.now.table.shared.table_id hand.seat }
     ensures seat { IsHandAtRest board.now.table.shared.table_id result.hand.seat }
@@ -70,7 +72,7 @@ pub(crate) fn worker_loop<R: Rules, W: Wait>(
         if make_posted(board, &mut hand, &mut rules) {
             notifiers.turns.notify();
         } else {
-            notifiers.jobs.wait_past(rt, heard);
+            notifiers.jobs.wait_past(rt, number, heard);
         }
     }
     unreachable!()

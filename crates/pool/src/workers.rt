@@ -22,13 +22,14 @@ pub(crate) struct Workers<'s, R: Rules> {
     pub(crate) hands: Vec<Hand<R>>,
 }
 
-// Spawns a thread for the next hand, if one is left. Returns `Memory` if no thread could be made; then the board is
-// shut, and the hand is back.
+// Spawns a thread for the next hand, if one is left, as the worker with this number. Returns `Memory` if no thread could
+// be made; then the board is shut, and the hand is back.
 pub(crate) fn spawn_worker<'s, E, R: Rules + Send + Drop + 's, T: Wait + Sync>(
     scope: &Scope<'s, E>,
     context: &Context<'s, R, T>,
     host: &mut Host<R>,
     crew: &mut Workers<'s, R>,
+    number: usize,
 ) -> Result<(), Memory>
     requires host { IsHostOf context.now.board.now host.old }
     requires crew { IsCrew context.now.board.now.table.shared.table_id crew.old }
@@ -64,7 +65,7 @@ pub(crate) fn spawn_worker<'s, E, R: Rules + Send + Drop + 's, T: Wait + Sync>(
             ensures seat { IsHandAtRest board.entry.now.table.shared.table_id result.hand.seat }
             ensures counted { R.turns result.rules ≡ R.turns own
                 + made_in result.hand.seat.me.0.answers }
-        { worker_loop(rt, board, notifiers, hand, own) },
+        { worker_loop(rt, board, notifiers, hand, own, number) },
     );
     match hired {
         Ok(worker) => {

@@ -54,58 +54,11 @@ impl From<Memory> for ParseError {
     }
 }
 
-/// Returns the number of a symbol.
+/// Returns the number of a symbol, which is its place among the symbols.
 fn symbol_code(symbol: Symbol) -> u8
     ensures { result ≡ code symbol }
 {
-    match symbol {
-        Symbol::NewLine => 0,
-        Symbol::Indent => 1,
-        Symbol::Dedent => 2,
-        Symbol::And => 3,
-        Symbol::Break => 4,
-        Symbol::Continue => 5,
-        Symbol::Def => 6,
-        Symbol::Elif => 7,
-        Symbol::Else => 8,
-        Symbol::For => 9,
-        Symbol::If => 10,
-        Symbol::In => 11,
-        Symbol::Load => 12,
-        Symbol::Not => 13,
-        Symbol::Or => 14,
-        Symbol::Pass => 15,
-        Symbol::Return => 16,
-        Symbol::NoneValue => 17,
-        Symbol::TrueValue => 18,
-        Symbol::FalseValue => 19,
-        Symbol::Plus => 20,
-        Symbol::Minus => 21,
-        Symbol::Star => 22,
-        Symbol::SlashSlash => 23,
-        Symbol::Percent => 24,
-        Symbol::Equal => 25,
-        Symbol::PlusEqual => 26,
-        Symbol::MinusEqual => 27,
-        Symbol::StarEqual => 28,
-        Symbol::SlashSlashEqual => 29,
-        Symbol::PercentEqual => 30,
-        Symbol::EqualEqual => 31,
-        Symbol::NotEqual => 32,
-        Symbol::Less => 33,
-        Symbol::LessEqual => 34,
-        Symbol::Greater => 35,
-        Symbol::GreaterEqual => 36,
-        Symbol::Dot => 37,
-        Symbol::Comma => 38,
-        Symbol::Colon => 39,
-        Symbol::LeftParen => 40,
-        Symbol::RightParen => 41,
-        Symbol::LeftBracket => 42,
-        Symbol::RightBracket => 43,
-        Symbol::LeftBrace => 44,
-        Symbol::RightBrace => 45,
-    }
+    symbol as u8
 }
 
 #[tactic(auto, unfolding(syntax_grammar::specs::Front::same))]

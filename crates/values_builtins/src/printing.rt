@@ -12,6 +12,13 @@ use itoa::Buffer;
 use values_heap::{Builtin, Entries, Entry, Halt, Members, ObjectRef, Objects, Val, tick};
 use values_semantics::faults;
 
+// What stands before the members of a container, and what stands after them.
+#[derive(Drop)]
+struct Brackets {
+    before: &'static [u8],
+    after: &'static [u8],
+}
+
 /// Writes the text of a value, or returns fault 11 or 12, or 5. Each value visited is a step, and `left` more
 /// containers may be entered.
 #[cycle(printing)]
@@ -138,7 +145,11 @@ fn print_list(
     if left == 0 {
         return Err(Halt::Code(faults::TOO_DEEP));
     }
-    print_enclosed(objects, steps, b"[", members, b"]", left - 1, out)?;
+    let brackets = Brackets {
+        before: b"[",
+        after: b"]",
+    };
+    print_enclosed(objects, steps, brackets, members, left - 1, out)?;
     Ok(())
 }
 
@@ -159,15 +170,11 @@ fn print_tuple(
     if left == 0 {
         return Err(Halt::Code(faults::TOO_DEEP));
     }
-    print_enclosed(
-        objects,
-        steps,
-        b"(",
-        members,
-        tuple_end(members),
-        left - 1,
-        out,
-    )?;
+    let brackets = Brackets {
+        before: b"(",
+        after: tuple_end(members),
+    };
+    print_enclosed(objects, steps, brackets, members, left - 1, out)?;
     Ok(())
 }
 
@@ -184,20 +191,20 @@ fn tuple_end(members: &Members<'_>) -> &'static [u8]
 fn print_enclosed(
     objects: &Objects,
     steps: &mut u64,
-    before: &[u8],
+    brackets: Brackets,
     members: &Members<'_>,
-    after: &[u8],
     left: u32,
     out: &mut TextBuffer,
 ) -> Result<(), Halt>
     ensures { Tells
-        (container before.now (separated (print left (map object_in objects.now)) members.now)
-        after.now) steps.old (text_so_far out.old) result steps.new (text_so_far out.new) }
+        (container
+        brackets.before.now (separated (print left (map object_in objects.now)) members.now)
+        brackets.after.now) steps.old (text_so_far out.old) result steps.new (text_so_far out.new) }
 {
     tick(steps)?;
-    out.write(before)?;
+    out.write(brackets.before)?;
     print_members(objects, steps, members, left, out)?;
-    out.write(after)?;
+    out.write(brackets.after)?;
     Ok(())
 }
 

@@ -6,3 +6,5 @@ pub mod Lent
 pub mod Places
 pub mod Halving
 pub mod Consecutive
+pub mod OwnObjects
+pub mod Iterations

@@ -199,26 +199,6 @@ unfolding object_in
 lent_in n [] = refl
 lent_in n (o ∷ os) = ap (λ l. moved n o ∷ l) (lent_in n os)
 
--- what was found at a place is what is there
-abbrev pub spot_standing : List HeapObject → Spot → Option Standing
-spot_standing objects (s.Own i) = option_map standing_of (slice_get objects i)
-spot_standing objects (s.Lent found base) = option_map (λ o. lent_at base (frozen_obj o.now)) found
-
-pub stands_now : (objects : List HeapObject) (rs read : List Range) (from l place : ℕ) (spot : Spot) (now : List Standing) → laid rs (map standing_of objects) ≡ now → InOrder rs 0 0 (length objects) from l → read ≡ rs → Finds read from l place spot → slice_get now place ≡ spot_standing objects spot
-stands_now objects rs read from l place spot now v h e f =
-    ap (λ w. slice_get w place) (sym v)
-    ∙ stands rs (length objects) from l (map standing_of objects) (sym (length-map objects standing_of)) h place
-    ∙ sym (subst (λ rs. Finds rs from l place spot) e f (length objects) h (map standing_of objects)) ∙ seen_there objects spot
-  where
-    seen_there : (objects : List HeapObject) (spot : Spot) → sought (map standing_of objects) spot ≡ spot_standing objects spot
-    seen_there objects (s.Own i) = slice_get-map standing_of objects i
-    seen_there objects (s.Lent found base) = refl
-
--- what is attached counts for nothing
-pub lent_bytes : (found : Option (Bor FrozenObject)) (base : ℕ) → standing_bytes (option_map (λ o. lent_at base (frozen_obj o.now)) found) ≡ 0
-lent_bytes (Some o) base = refl
-lent_bytes None base = refl
-
 -- an own object counts for its bytes while its memory is there
 pub own_bytes : (h : HeapObject) → counted_bytes h ≡ standing_bytes (Some (standing_of h))
 own_bytes h = by h.object

@@ -1,9 +1,9 @@
 -- Objects that have been freed.
-use Rattle.std.specs.Prelude.{◌≡◌, ℕ, true, List, Option, Some, None, option_map, slice_get, if◌then◌else◌}
+use Rattle.std.specs.Prelude.{◌≡◌, ℕ, true, List, Option, Some, None, option_map, slice_get, filter, if◌then◌else◌}
 use Rattle.values_heap.specs.declared.heap_object.HeapObject.{HeapObject}
 use Rattle.values_heap.specs.declared.object.Object.{Object}
 use Rattle.values_heap.specs.MemoryUse.{object_bytes}
-use Rattle.values_heap.specs.Standings.{Standing, own, lent, is_gone, is_lent, stays}
+use Rattle.values_heap.specs.Standings.{Standing, own, lent, is_own, is_gone, is_lent, stays}
 use Rattle.values_heap.specs.Own.{written_object}
 
 -- an object has a place here, and has been freed
@@ -32,5 +32,6 @@ standing_bytes (Some (own object gone)) = if gone then 0 else object_bytes objec
 standing_bytes (Some (lent object)) = 0
 standing_bytes None = 0
 
-abbrev pub bytes_at : List Standing → ℕ → ℕ
-bytes_at objects place = standing_bytes (slice_get objects place)
+-- the same, of an own object by its number among these
+abbrev pub bytes_of_own : List Standing → (number : ℕ) → ℕ
+bytes_of_own objects number = standing_bytes (slice_get (filter is_own objects) number)

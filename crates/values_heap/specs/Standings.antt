@@ -21,6 +21,10 @@ abbrev pub is_gone : Standing → Bool
 is_gone (own object gone) = gone
 is_gone (lent object) = false
 
+abbrev pub is_own : Standing → Bool
+is_own (own object gone) = true
+is_own (lent object) = false
+
 abbrev pub is_lent : Standing → Bool
 is_lent (own object gone) = false
 is_lent (lent object) = true

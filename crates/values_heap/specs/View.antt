@@ -1,5 +1,5 @@
 -- What the heap in memory is to the definitions, and what a call that takes a step of them ensures.
-use Rattle.std.specs.Prelude.{◌≡◌, List, ◌++◌, map, length, Result, Ok, Err}
+use Rattle.std.specs.Prelude.{◌≡◌, List, ◌++◌, map, reverse, length, Result, Ok, Err}
 use Rattle.std.specs.declared.vec.Vec.{Vec}
 use Rattle.std.specs.declared.alloc.Global.{Global}
 use Rattle.values_semantics.specs.Outcome.{Out, gives, faults, ValueOrFault, good, bad}
@@ -14,8 +14,9 @@ use Rattle.values_heap.specs.Standings.{Standing, standing_object}
 unfoldable pub object_in : Standing → Obj
 object_in s = standing_object s
 
+-- what is iterated is in memory in the order in which the iterations began, and here the last one is the first
 abbrev pub store_of : Heap → Store
-store_of h = record { heap = map object_in h.objects; iterated = h.iterated.items; steps = h.steps }
+store_of h = record { heap = map object_in h.objects; iterated = reverse h.iterated.items; steps = h.steps }
 
 -- objects that are attached are after all others, and the values in them name places among themselves
 abbrev pub lends : List Obj → Store → Store

@@ -40,8 +40,8 @@ const BYTES_A_PLACE: u64 = 64;
 /// The most bytes to which the places put off a collection, so that `MAX_BYTES` is kept.
 const MAX_BY_PLACES: u64 = 134_217_728;
 
-/// What the values of an evaluation are on: the objects, the places of those that are iterated, and the steps that are
-/// left.
+/// What the values of an evaluation are on: the objects, the places of those that are iterated, in the order in which
+/// the iterations began, and the steps that are left.
 #[derive(Drop)]
 pub struct Heap {
     pub alloc: Global,
@@ -138,12 +138,13 @@ impl Heap {
     }
 
     /// Puts off the next collection until twice as many bytes are allocated as now, and at least `FIRST_FULL`. A
-    /// collection visits all places that were ever made, so the threshold also grows by some bytes for each of them.
+    /// collection visits the places of all own objects that were ever made, so the threshold also grows by some bytes
+    /// for each of them.
     pub(crate) fn set_threshold(&mut self)
         ensures same { store_of self.new ≡ store_of self.old }
         ensures held { self.new.held ≡ self.old.held }
     {
-        let places = (self.objects.len() as u64).saturating_mul(BYTES_A_PLACE);
+        let places = (self.objects.own_len() as u64).saturating_mul(BYTES_A_PLACE);
         let by_places = self.held.saturating_add(places).min(MAX_BY_PLACES);
         self.full_at = self.held.saturating_mul(2).max(FIRST_FULL).max(by_places);
     }

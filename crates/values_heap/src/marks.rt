@@ -1,44 +1,73 @@
 //! What is still reached, and how all else is freed.
 ghost use Rattle.std.specs.Prelude.{◌≡◌, ◌≤◌, ◌-◌};
 ghost use Rattle.values_heap.specs.View.{store_of};
-ghost use Rattle.values_heap.specs.Reclamation.{bytes_at};
+ghost use Rattle.values_heap.specs.Reclamation.{bytes_of_own};
 
 use crate::heap::Heap;
 use crate::object_ref::{Entries, Members, ObjectRef};
+use crate::objects::Gap;
 use base_types::Memory;
 use indexmap::IndexMap;
 use std::alloc::Global;
 use values_semantics::{Entry, Key, Val};
 
-/// The objects that are known to be reached. No contract depends on it: if an object is missing here, is freed and is
-/// read later, the read returns `Memory`.
+/// The own objects that are known to be reached. Attached ones are not among them, since they are neither followed nor
+/// freed. No contract depends on it: if an object is missing here, is freed and is read later, the read returns
+/// `Memory`.
 #[derive(Drop)]
 pub struct Marks {
-    // For each place, whether its object is reached.
+    // For each own object, by its number among these, whether it is reached.
     marks: Vec<bool>,
+    // The gaps between own objects, in order, by which their numbers are found.
+    gaps: Vec<Gap>,
     // The places of reached objects whose members are not visited yet.
     open: Vec<usize>,
 }
 
 impl Marks {
-    /// Makes a record of the objects of a heap, of which none is reached.
+    /// Makes a record of the own objects of a heap, of which none is reached. It is for this heap alone, and until
+    /// more objects are attached.
     pub fn new(alloc: Global, heap: &Heap) -> Result<Marks, Memory> {
         let mut marks = Vec::new(alloc);
-        marks.resize(heap.objects.len(), false)?;
+        marks.resize(heap.objects.own_len(), false)?;
         Ok(Marks {
             marks,
+            gaps: heap.objects.gaps(alloc)?,
             open: Vec::new(alloc),
         })
+    }
+
+    // Returns the number of the own object at a place, or nothing if an attached one is there. This takes one
+    // comparison for a place after the last gap.
+    fn number(&self, place: usize) -> Option<usize> {
+        let gaps = self.gaps.as_slice();
+        let begun = match gaps.last() {
+            Some(last) if last.start as usize <= place => gaps.len(),
+            _ => gaps.partition_point(|gap| gap.start as usize <= place),
+        };
+        match gaps.get(begun.wrapping_sub(1)) {
+            Some(gap) if place < gap.end as usize => None,
+            Some(gap) => Some(place.saturating_sub(gap.through as usize)),
+            None => Some(place),
+        }
     }
 
     /// Marks a value as reached.
     pub fn add(&mut self, x: Val) -> Result<(), Memory> {
         if let Val::At(place) = x {
-            if let Some(mark) = self.marks.get_mut(place) {
-                if !*mark {
-                    *mark = true;
-                    self.open.push(place)?;
-                }
+            if let Some(number) = self.number(place) {
+                self.add_own(number, place)?;
+            }
+        }
+        Ok(())
+    }
+
+    // Marks the own object with a number as reached, which is at a place.
+    fn add_own(&mut self, number: usize, place: usize) -> Result<(), Memory> {
+        if let Some(mark) = self.marks.get_mut(number) {
+            if !*mark {
+                *mark = true;
+                self.open.push(place)?;
             }
         }
         Ok(())
@@ -82,9 +111,9 @@ impl Marks {
         Ok(())
     }
 
-    // Returns whether the object at a place is reached.
-    fn has(&self, place: usize) -> bool {
-        self.marks.get(place).copied().unwrap_or(true)
+    // Returns whether the own object with a number is reached.
+    fn has(&self, number: usize) -> bool {
+        self.marks.get(number).copied().unwrap_or(true)
     }
 
     // Marks the members of an object as reached.
@@ -102,14 +131,10 @@ impl Heap {
     /// Marks the members of reached objects as reached too. The members of an attached object are not followed, since
     /// they are attached with it.
     pub fn mark_reachable(&self, reached: &mut Marks) -> Result<(), Memory> {
-        // Each object is visited once at most.
-        for _i in 0..self.objects.len() {
+        // Each own object is visited once at most.
+        for _i in 0..self.objects.own_len() {
             match reached.open.pop() {
-                Some(place) => {
-                    if !self.objects.is_attached(place) {
-                        reached.add_members(self.object(place)?)?;
-                    }
-                }
+                Some(place) => reached.add_members(self.object(place)?)?,
                 None => return Ok(()),
             }
         }
@@ -121,31 +146,20 @@ impl Heap {
         ensures same { store_of self.new ≡ store_of self.old }
         ensures held { self.new.held ≤ self.old.held }
     {
-        for i in 0..self.objects.parts() {
-            self.sweep_range(i, reached);
+        for number in 0..self.objects.own_len() {
+            if !reached.has(number) {
+                self.free_own(number);
+            }
         }
         self.set_threshold();
     }
 
-    // Frees the own objects between two ranges that are not reached. `part` is the number of the range after them.
-    fn sweep_range(&mut self, part: usize, reached: &Marks)
+    // Frees the own object with a number, and refunds its bytes.
+    fn free_own(&mut self, number: usize)
         ensures same { store_of self.new ≡ store_of self.old }
-        ensures held { self.new.held ≤ self.old.held }
+        ensures held { self.new.held ≡ self.old.held - bytes_of_own self.old.objects number }
     {
-        let (first, behind) = self.objects.part(part);
-        for place in first..behind {
-            if !reached.has(place) {
-                self.free_at(place);
-            }
-        }
-    }
-
-    // Frees the object at a place, and refunds its bytes.
-    fn free_at(&mut self, place: usize)
-        ensures same { store_of self.new ≡ store_of self.old }
-        ensures held { self.new.held ≡ self.old.held - bytes_at self.old.objects place }
-    {
-        let bytes = self.objects.free(place, &mut self.spare);
+        let bytes = self.objects.free(number, &mut self.spare);
         self.release(bytes);
     }
 }

@@ -4,7 +4,7 @@ ghost use Rattle.std.specs.Arc.{arc_value};
 ghost use Rattle.values_heap.specs.Looks.{seen_object};
 ghost use Rattle.values_heap.specs.MemoryUse.{found_bytes};
 ghost use Rattle.values_heap.specs.Objects.{object_of};
-ghost use Rattle.values_heap.specs.Reclamation.{IsGone, IsLent, IsKept, bytes_at, standing_bytes};
+ghost use Rattle.values_heap.specs.Reclamation.{IsGone, IsLent, IsKept, bytes_of_own, standing_bytes};
 ghost use Rattle.values_heap.specs.Standings.{Standing, Begun, own, has_gone, standing_of, lent_at, laid, InOrder, where_is, found_there, own_number, range_standings};
 ghost use Rattle.values_heap.specs.Sought.{sought, sought_number};
 ghost use Rattle.values_heap.specs.View.{object_in};
@@ -28,6 +28,15 @@ struct Range {
     end: u32,
     through: u32,
     objects: Arc<FrozenObjects, Global>,
+}
+
+/// A gap between own objects, in which a range is: the place of its first object, the place after the last, and how
+/// many attached objects there are up to that place.
+#[derive(Drop)]
+pub(crate) struct Gap {
+    pub(crate) start: u32,
+    pub(crate) end: u32,
+    pub(crate) through: u32,
 }
 
 /// What is on a heap. Its own objects are in one list. An attached range has the places after all that was there
@@ -314,50 +323,32 @@ impl Objects {
         Ok(())
     }
 
-    /// Returns whether the object at a place is attached.
-    pub(crate) fn is_attached(&self, place: usize) -> bool {
-        match seek(self.ranges.as_slice(), self.from, self.lent, place) {
-            Spot::Own(_) => false,
-            Spot::Lent {
-                object: _object,
-                base: _base,
-            } => true,
+    /// Returns how many own objects there are.
+    pub(crate) fn own_len(&self) -> usize {
+        self.own.len()
+    }
+
+    /// Returns the gaps between own objects, in order. The time depends on the number of ranges, and not on what is in
+    /// them.
+    pub(crate) fn gaps(&self, alloc: Global) -> Result<Vec<Gap>, Memory> {
+        let mut gaps = Vec::new(alloc);
+        for range in self.ranges.iter() {
+            gaps.push(Gap {
+                start: range.start,
+                end: range.end,
+                through: range.through,
+            })?;
         }
+        Ok(gaps)
     }
 
-    /// Returns into how many parts the ranges divide the own objects, which is one more than there are ranges.
-    pub(crate) fn parts(&self) -> usize {
-        self.ranges.len().saturating_add(1)
-    }
-
-    /// Returns where a part of the own objects is: the place of the first, and that after the last.
-    pub(crate) fn part(&self, part: usize) -> (usize, usize) {
-        let first = match part.checked_sub(1) {
-            Some(before) => match self.ranges.get(before) {
-                Some(range) => range.end as usize,
-                None => self.len(),
-            },
-            None => 0,
-        };
-        match self.ranges.get(part) {
-            Some(range) => (first, range.start as usize),
-            None => (first, self.len()),
-        }
-    }
-
-    /// Frees the object at a place, if it is the heap's own, and returns the bytes that it counted for. These are 0 if
-    /// it was freed before, or if it is attached. For a contract it is still there.
-    pub fn free(&mut self, place: usize, spare: &mut SpareRoom) -> u128
+    /// Frees the own object with a number, and returns the bytes that it counted for. These are 0 if it was freed
+    /// before. For a contract it is still there.
+    pub fn free(&mut self, number: usize, spare: &mut SpareRoom) -> u128
         ensures same { map object_in self.new ≡ map object_in self.old }
-        ensures bytes { result ≡ bytes_at self.old place }
+        ensures bytes { result ≡ bytes_of_own self.old number }
     {
-        match seek(self.ranges.as_slice(), self.from, self.lent, place) {
-            Spot::Own(i) => free_own(&mut self.own, i, spare),
-            Spot::Lent {
-                object: _object,
-                base: _base,
-            } => 0,
-        }
+        free_own(&mut self.own, number, spare)
     }
 }
 

@@ -93,6 +93,7 @@ fn add_entry(heap: &mut Heap, a: usize, more: &[Val]) -> Result<(), Halt>
 }
 
 // Tests whether the object at a place may be changed: returns fault 6 if it is frozen, 7 if it is iterated.
+#[tactic(auto, using(values_heap::proofs::Iterations::iterated_alike))]
 fn may_change(heap: &Heap, a: usize, frozen: bool) -> Result<(), Halt>
     ensures { Says (may_change a frozen (store_of heap.now)) result (store_of heap.now) }
 {

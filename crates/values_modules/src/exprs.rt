@@ -1,9 +1,11 @@
 //! Expressions that are one tree.
-ghost use Rattle.std.specs.Prelude.{◌≡◌};
+ghost use Rattle.std.specs.Prelude.{◌≡◌, ◌&&◌, nat_eq};
+ghost use Rattle.std.specs.Cmp.Lexicographic.{pointwise};
 ghost use Rattle.syntax_tree.specs.View.{tree_of, clause_of, trees_of, clause_trees, bound_tree};
 ghost use Rattle.values_modules.specs.Same.{same_ex, same_exs, same_bound, same_clause, same_clauses};
 
 use crate::numbers::{binary_number, literal_number, unary_number};
+use base_types::Text;
 use std::alloc::Global;
 use std::sync::Arc;
 use syntax_tree::{Clause, Expr};
@@ -43,18 +45,22 @@ pub fn same_expr(a: &Expr, b: &Expr) -> bool
             same_expr(x, y) && same_bound(i, k) && same_bound(j, l)
         }
         (Expr::Call(x, xs, ns), Expr::Call(y, ys, ms)) => {
-            same_expr(x, y)
-                && same_exprs(xs.as_slice(), ys.as_slice())
-                && ns.as_slice() == ms.as_slice()
+            same_expr(x, y) && same_arguments(xs, ns, ys, ms)
         }
         (Expr::Method(x, n, xs, ns), Expr::Method(y, m, ys, ms)) => {
-            same_expr(x, y)
-                && n == m
-                && same_exprs(xs.as_slice(), ys.as_slice())
-                && ns.as_slice() == ms.as_slice()
+            same_expr(x, y) && n == m && same_arguments(xs, ns, ys, ms)
         }
         _ => false,
     }
+}
+
+// Returns whether two calls have the same arguments, and the same names of the last ones.
+#[cycle(exprs)]
+fn same_arguments(xs: &[Expr], ns: &[Text], ys: &[Expr], ms: &[Text]) -> bool
+    ensures { result ≡ (same_exs (trees_of xs.now) (trees_of ys.now)
+        && pointwise (pointwise nat_eq) ns.now ms.now) }
+{
+    same_exprs(xs, ys) && ns == ms
 }
 
 // Returns whether expressions are the same trees, in order.

@@ -3,12 +3,12 @@ ghost use Rattle.std.specs.Prelude.{◌≡◌, IfOk};
 ghost use Rattle.std.specs.Option.{option_map};
 ghost use Rattle.std.specs.Arc.{arc_value};
 ghost use Rattle.loader_commands.specs.View.{texts_seen};
-ghost use Rattle.loader.specs.Holding as specs;
+ghost use Rattle.loader_answers.specs.Holding as specs;
 
 use super::Session;
-use crate::holding::{Changes, changed_names, unknown_names};
 use base_types::{Memory, Text};
 use keys::{Key, Value};
+use loader_answers::{Changes, changed_names, unknown_names};
 use loader_commands::module_label;
 use std::sync::Arc;
 

@@ -6,15 +6,14 @@ ghost use Rattle.loader_commands.specs.Refusals.{request_refusal};
 ghost use Rattle.loader_commands.specs.View.{request_seen, texts_seen};
 ghost use Rattle.shelf.specs.Lists.{version_of};
 ghost use Rattle.shelf.specs.Shelves.{published_by, shelf_of};
-ghost use Rattle.loader.specs.Effects.{StopsAfter, StopsRequest, request_roots};
+ghost use Rattle.loader_answers.specs.Effects.{StopsAfter, StopsRequest, request_roots};
 ghost use Rattle.loader.specs.RequestCalls.{IsReplyTo, RunsRequest};
 ghost use Rattle.loader.specs.PublishingCalls.{AreEntriesOf, IsReplyToLoad, KeepsHistory, KeepsShown, PublishesLoad, RunsLoad, ShowsLoad};
-ghost use Rattle.loader.specs.Sessions.{IsConsistent};
+ghost use Rattle.loader_answers.specs.Sessions.{IsConsistent};
 
 use super::{Reply, Session};
-use crate::publishing::packages_reply;
-use crate::request_answers::package_keys;
 use base_types::Text;
+use loader_answers::{package_keys, packages_reply};
 use loader_commands::{Request, refusal};
 use round::Stop;
 use shelf::{Keeper, Told};

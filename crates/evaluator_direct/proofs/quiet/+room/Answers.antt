@@ -19,7 +19,7 @@ room_behind-returns-in-Binary t c =
     let is : tree_of c.args.e.now ≡ tr.binary op a b = ap tree_of c.in-Binary.is ∙ (tree-Binary op c.in-Binary.a c.in-Binary.b ∙ (ap (λ (x : Expr). tr.binary op (tree_of x) (shared_tree c.in-Binary.b)) (sym c.deref-in-Binary-2.ensures) ∙ ap (λ (x : Expr). tr.binary op a (tree_of x)) (sym c.deref-in-Binary.ensures))) in
     let behind_b = c.room_behind-in-Binary-2.ensures ∙ ap (λ l. room (quiet free b) (weight b) l) c.room_behind-in-Binary.ensures in
     subst (λ (e : Ex). c.saturating_sub-in-Binary.result ≡ room (quiet free e) (weight e) c.args.left) (sym is)
-    (c.saturating_sub-in-Binary.ensures ∙ ap (λ l. l - 512) behind_b ∙ between (quiet free a) (quiet free b) c.args.left (weight a) (weight b) 512)
+    (c.saturating_sub-in-Binary.ensures ∙ ap (λ l. l - 128) behind_b ∙ between (quiet free a) (quiet free b) c.args.left (weight a) (weight b) 128)
 
 pub room_behind-returns-in-Choice : goal.room_behind-returns-in-Choice
 room_behind-returns-in-Choice t c =
@@ -53,4 +53,4 @@ room_behind-returns-in-Slice t c =
     let behind_i = c.room_behind_bound.ensures ∙ ap (λ l. room (quiet_bound free i) (bound_weight i) l) c.room_behind-left.ensures in
     let behind_j = c.room_behind_bound-in-Slice.ensures ∙ ap (λ l. room (quiet_bound free j) (bound_weight j) l) behind_i in
     subst (λ (e : Ex). c.saturating_sub-in-Slice.result ≡ room (quiet free e) (weight e) c.args.left) (sym is)
-    (c.saturating_sub-in-Slice.ensures ∙ ap (λ l. l - 512) behind_j ∙ between_three (quiet free a) (quiet_bound free i) (quiet_bound free j) c.args.left (weight a) (bound_weight i) (bound_weight j) 512)
+    (c.saturating_sub-in-Slice.ensures ∙ ap (λ l. l - 128) behind_j ∙ between_three (quiet free a) (quiet_bound free i) (quiet_bound free j) c.args.left (weight a) (bound_weight i) (bound_weight j) 128)

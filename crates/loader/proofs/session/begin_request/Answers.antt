@@ -2,9 +2,9 @@ use Rattle.std.proofs.Common.{◌≡◌, ◌∙◌, sym, subst, refl, ℕ, []}
 use Rattle.std.specs.Prelude.{Option, Some}
 use Rattle.loader_commands.specs.View.{request_seen}
 use Rattle.loader_commands.specs.Refusals.{request_refusal}
-use Rattle.loader.specs.Answers.{refusal_reply, IsValueOf, IsUnlessRefused}
-use Rattle.loader.specs.Effects.{Performs, unless_refused, evaluations}
-use Rattle.loader.specs.Sessions.{files_of, state_of}
+use Rattle.loader_answers.specs.Answers.{refusal_reply, IsValueOf, IsUnlessRefused}
+use Rattle.loader_answers.specs.Effects.{Performs, unless_refused, evaluations}
+use Rattle.loader_answers.specs.Sessions.{files_of, state_of}
 use Rattle.loader.proofs.session.begin_request.Goals as goal
 
 pub returns-in-Some : goal.returns-in-Some

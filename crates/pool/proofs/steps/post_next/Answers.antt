@@ -12,11 +12,11 @@ pub unreachable-requires-in-Err : goal.unreachable-requires-in-Err
 unreachable-requires-in-Err g c = has_room c.args.host.now.seat.me.0 c.args.context.now.board.now.capacity c.requires.room.0 c.requires.room.1 c.in-Err.ensures.posted.1
 
 pub returns-in-Ok-clause-host : goal.returns-in-Ok-clause-host
-returns-in-Ok-clause-host g c = (c.post.ensures.host, posted_same c.args.host.now.seat.me.0 c.post.new.host.seat.me.0 c.in-Ok.field-0 c.in-Some-2.job c.in-Ok.ensures.posted.1)
+returns-in-Ok-clause-host g c = (c.post.ensures.host, posted_same _ _ c.args.host.now.seat.me.0 c.post.new.host.seat.me.0 c.in-Ok.field-0 c.in-Some-2.job c.in-Ok.ensures.posted.1)
 
 pub returns-in-Ok-clause-serving : goal.returns-in-Ok-clause-serving
 returns-in-Ok-clause-serving g c = λ roots. let o = c.in_ok-job.ensures in
-    given c.args.graph.now c.args.round.now c.hand_out.new.self c.args.host.now.seat.me.0 c.post.new.host.seat.me.0 c.in-Ok.field-0 c.in-Some-2.job c.in-Some.key o.beside o.others
+    given _ _ c.args.graph.now c.args.round.now c.hand_out.new.self c.args.host.now.seat.me.0 c.post.new.host.seat.me.0 c.in-Ok.field-0 c.in-Some-2.job c.in-Some.key o.beside o.others
     (rw c.in-Some-2.is at o.hands) c.in-Ok.ensures.posted.1 roots c.args.own.now.made
 
 pub returns-in-Ok-clause-truth : goal.returns-in-Ok-clause-truth

@@ -1,8 +1,9 @@
 use denote.Exit.{no}
 use mir.Syntax.{named}
-use denote.Param.Send.{param_send, arg_send}
+use denote.Param.Send.{param_send, arg_send, sendable}
 use denote.Param.{param}
-use Rattle.std.proofs.Common.{arith, ap, ◌∙◌, ◌≡◌, ◌++◌, ◌∷◌, [], All, length, length-append}
+use denote.Plain.{UInt}
+use Rattle.std.proofs.Common.{w64, arith, ap, ◌∙◌, ◌≡◌, ◌++◌, ◌∷◌, [], All, length, length-append}
 use Rattle.board.specs.Places.{IsNewHand, IsHandAtRest}
 use Rattle.board.specs.Rule.{total}
 use Rattle.board.proofs.Looks.{all_before, all_last, all_snoc}
@@ -13,8 +14,8 @@ use Rattle.pool.proofs.workers.spawn_worker.Goals as goal
 
 pub spawn_with-hired-requires-send-F : goal.spawn_with-hired-requires-send-F
 spawn_with-hired-requires-send-F g c κs within =
-    param_send 2 _ (arg_send _ no _ (taken_send (param 1 g.row.R) (param 3 g.row.R-State) g.R.Rules c.type_bounds.send-R-State g.row.T _
-    (record { mir = named 6; lft = κs.1.1.1.1.1.1.0 }) (record { mir = named 7; lft = κs.1.1.1.1.1.1.1.0 }) (record { mir = named 8; lft = κs.1.1.1.1.1.1.1.1.0 }) c.type_bounds.sync-T c.type_bounds.send-R))
+    param_send 2 _ (arg_send _ no _ (taken_send (param 1 g.row.R) (param 3 g.row.R-State) g.R.Rules c.type_bounds.send-R-State g.row.T (UInt w64) _
+    (record { mir = named 6; lft = κs.1.1.1.1.1.1.0 }) (record { mir = named 7; lft = κs.1.1.1.1.1.1.1.0 }) (record { mir = named 8; lft = κs.1.1.1.1.1.1.1.1.0 }) c.type_bounds.sync-T c.type_bounds.send-R (search sendable)))
 
 pub spawn_with-hired-requires-send-T : goal.spawn_with-hired-requires-send-T
 spawn_with-hired-requires-send-T g c κs within =

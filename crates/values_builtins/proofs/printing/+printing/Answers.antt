@@ -56,7 +56,7 @@ print_braced-returns t c =
 pub print_enclosed-returns : goal.print_enclosed-returns
 print_enclosed-returns t c =
     let show = print c.args.left (map object_in c.args.objects.now) in
-    contained (separated show c.args.members.now) c.args.steps.now c.tick.new.steps c.print_members.new.steps (text_so_far c.args.out.now) (text_so_far c.write.new.self) (text_so_far c.print_members.new.out) (text_so_far c.write-2.new.self) c.args.before.now c.args.after.now c.in_ok-tick.ensures c.in_ok-write.ensures c.in_ok-print_members.ensures c.in_ok-write-2.ensures
+    contained (separated show c.args.members.now) c.args.steps.now c.tick.new.steps c.print_members.new.steps (text_so_far c.args.out.now) (text_so_far c.write.new.self) (text_so_far c.print_members.new.out) (text_so_far c.write-2.new.self) c.args.brackets.before.now c.args.brackets.after.now c.in_ok-tick.ensures c.in_ok-write.ensures c.in_ok-print_members.ensures c.in_ok-write-2.ensures
 
 pub print_entry-returns : goal.print_entry-returns
 print_entry-returns t c =

@@ -3,11 +3,11 @@ use Rattle.node.specs.Graphs.{GraphView, record_at, IsTouched, AreReached, paths
 use Rattle.node.specs.Laws.{TouchKeepsLawful}
 use Rattle.filetree.specs.Files.{Files}
 use Rattle.filetree.specs.Lawful.{HasPaths}
-use Rattle.loader.proofs.Requests.{kept_paths}
-use Rattle.loader.specs.State.{Edit, state_after_edit, changed_files}
-use Rattle.loader.specs.Sessions.{SessionView, files_of, state_of, paths_of}
+use Rattle.loader_answers.proofs.Requests.{kept_paths}
+use Rattle.loader_answers.specs.State.{Edit, state_after_edit, changed_files}
+use Rattle.loader_answers.specs.Sessions.{SessionView, files_of, state_of, paths_of}
 use Rattle.loader_commands.specs.View.{edit_seen}
-use Rattle.loader.proofs.Histories.{accepted, accepted_state}
+use Rattle.loader_answers.proofs.Histories.{accepted, accepted_state}
 use Rattle.loader.proofs.Applying.{not_refused, is_reached}
 use Rattle.loader.proofs.session.Session.apply.Goals as goal
 

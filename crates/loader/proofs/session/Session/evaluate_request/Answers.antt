@@ -5,11 +5,11 @@ use Rattle.filetree.specs.Lawful.{HasPaths}
 use Rattle.keys.specs.declared.key.Key.{Key}
 use Rattle.round_nodes.specs.TurnCounts.{turns_of}
 use Rattle.loader_commands.specs.View.{request_seen}
-use Rattle.loader.specs.Sessions.{SessionView, files_of}
-use Rattle.loader.specs.Effects.{AreSettled, request_roots, later_roots}
+use Rattle.loader_answers.specs.Sessions.{SessionView, files_of}
+use Rattle.loader_answers.specs.Effects.{AreSettled, request_roots, later_roots}
 use Rattle.loader.proofs.Counts.{turns_append}
 use Rattle.loader.proofs.Steps.{on_err}
-use Rattle.loader.proofs.Requests.{held_in}
+use Rattle.loader_answers.proofs.Requests.{held_in}
 use Rattle.loader.proofs.Evaluating.{evaluates, stops_of, same_files, held_of, moved_stops, first_stops, second_stops, moved_twice}
 use Rattle.loader.proofs.session.Session.evaluate_request.Goals as goal
 

@@ -3,10 +3,10 @@ use Rattle.filetree.specs.Files.{Files}
 use Rattle.filetree.specs.Lawful.{HasPaths}
 use Rattle.keys.specs.declared.key.Key.TheVariants as key
 use Rattle.loader_commands.specs.View.{texts_seen}
-use Rattle.loader.specs.Effects.{AreSettled}
-use Rattle.loader.specs.Sessions.{SessionView, files_of}
+use Rattle.loader_answers.specs.Effects.{AreSettled}
+use Rattle.loader_answers.specs.Sessions.{SessionView, files_of}
 use Rattle.loader.proofs.PackageTexts.{line_held, entries_held}
-use Rattle.loader.proofs.Requests.{held_in}
+use Rattle.loader_answers.proofs.Requests.{held_in}
 use Rattle.loader.proofs.session.Session.load.Goals as goal
 
 pub returns-clause-text : goal.returns-clause-text

@@ -1,13 +1,13 @@
 use Rattle.std.proofs.Common.{◌≡◌, ◌∙◌, ap, sym, subst, refl, ℕ, Option, None, string_bytes}
 use Rattle.loader_commands.specs.View.{request_seen}
-use Rattle.loader.specs.Answers.{refusal_reply, IsValueOf, IsUnlessRefused, Tells}
+use Rattle.loader_answers.specs.Answers.{refusal_reply, IsValueOf, IsUnlessRefused, Tells}
 use Rattle.filetree.specs.Files.{Files}
 use Rattle.filetree.specs.Lawful.{HasPaths}
 use Rattle.loader_commands.specs.Refusals.{request_refusal}
-use Rattle.loader.specs.Effects.{AreSettled, reply_roots}
-use Rattle.loader.specs.Sessions.{SessionView, files_of}
+use Rattle.loader_answers.specs.Effects.{AreSettled, reply_roots}
+use Rattle.loader_answers.specs.Sessions.{SessionView, files_of}
 use Rattle.loader.proofs.Steps.{on_err}
-use Rattle.loader.proofs.Requests.{text_told, held_in}
+use Rattle.loader_answers.proofs.Requests.{text_told, held_in}
 use Rattle.loader.proofs.Evaluating.{moved_stops}
 use Rattle.loader.proofs.session.Session.reply_to_with.Goals as goal
 

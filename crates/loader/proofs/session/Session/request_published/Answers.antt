@@ -4,9 +4,9 @@ use Rattle.loader_commands.specs.Refusals.{request_refusal}
 use Rattle.loader_commands.specs.View.{request_seen, texts_seen}
 use Rattle.shelf.specs.Lists.{then_published}
 use Rattle.shelf.specs.Shelves.{published_by}
-use Rattle.loader.specs.Effects.{StopsRequest}
-use Rattle.loader.specs.Sessions.{state_of, files_of}
-use Rattle.loader.specs.Publishing.{Publishes, Shows, names_to_publish}
+use Rattle.loader_answers.specs.Effects.{StopsRequest}
+use Rattle.loader_answers.specs.Sessions.{state_of, files_of}
+use Rattle.loader_answers.specs.Publishing.{Publishes, Shows, names_to_publish}
 use Rattle.loader.proofs.Steps.{on_err}
 use Rattle.loader.proofs.Loads.{none_left, names_are, published_so, stopped_so}
 use Rattle.loader.proofs.session.Session.request_published.Goals as goal

@@ -6,10 +6,10 @@ use Rattle.functions.specs.Next.{next}
 use Rattle.keys.specs.Leaves.{read}
 use Rattle.keys.specs.Cycles.{cycle}
 use Rattle.round.specs.Call.{Calls}
-use Rattle.loader.specs.Sessions.{SessionView, files_of}
-use Rattle.loader.specs.Effects.{StopsAfter}
+use Rattle.loader_answers.specs.Sessions.{SessionView, files_of}
+use Rattle.loader_answers.specs.Effects.{StopsAfter}
 use Rattle.loader.proofs.Steps.{on_err}
-use Rattle.loader.proofs.Requests.{lawful_call, lawful_stop, stops_after, holds_value}
+use Rattle.loader_answers.proofs.Requests.{lawful_call, lawful_stop, stops_after, holds_value}
 use Rattle.loader.proofs.session.Session.settle_with.Goals as goal
 
 pub invariant_of-self : goal.invariant_of-self

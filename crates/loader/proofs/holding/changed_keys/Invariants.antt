@@ -1,6 +1,0 @@
-use Rattle.std.proofs.Common.{◌≡◌, ◌++◌, drop}
-use Rattle.loader.specs.Holding.{changed_keys}
-use Rattle.loader.proofs.holding.changed_keys.Given as goal
-
-abbrev pub invariant-loop-key : goal.invariant-loop-key
-invariant-loop-key l = l.changed.items ++ changed_keys l.graph l.version (drop l.key-index l.keys) ≡ changed_keys l.graph l.version l.keys

@@ -1,6 +1,0 @@
-use Rattle.std.proofs.Common.{◌≡◌, ◌++◌, drop}
-use Rattle.loader.specs.Effects.{package_roots}
-use Rattle.loader.proofs.request_answers.named_keys.Given as goal
-
-abbrev pub invariant-loop-name : goal.invariant-loop-name
-invariant-loop-name l = l.roots.items ++ package_roots (drop l.name-index l.names) ≡ package_roots l.names

@@ -1,0 +1,9 @@
+pub mod State
+pub mod Sessions
+pub mod Answers
+pub mod Journal
+pub mod Effects
+pub mod Holding
+pub mod GraphLinks
+pub mod KeyAnswers
+pub mod Publishing
