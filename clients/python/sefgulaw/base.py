@@ -12,6 +12,7 @@ from functools import partial
 from typing import Union
 
 from sefgulaw import disk, telling
+from sefgulaw.allocator import Allocator
 from sefgulaw.bridge.tree import Bridge
 from sefgulaw.disk import Ignore, Unreadable
 from sefgulaw.event_file import EventFile
@@ -52,6 +53,7 @@ class Options:
     ignore: Ignore = Ignore()
     stand_ins: StandIns = "auto"
     rules: tuple[str, ...] = ()
+    allocator: Allocator = Allocator()
 
 
 class Base:
@@ -109,13 +111,17 @@ class Base:
 
     def start_loader(self) -> Loader:
         """Starts a loader that was told nothing, with the same options as the base's own."""
-        return Loader.start([self.options.program], self.options.workers, self.options.deadline)
+        return self._start(())
 
     def _start_own(self) -> Loader:
         """Starts the base's own loader, which alone writes events."""
+        return self._start([] if self.events is None else self.events.begin())
+
+    def _start(self, words: Sequence[str]) -> Loader:
         options = self.options
-        words = [] if self.events is None else self.events.begin()
-        return Loader.start([options.program], options.workers, options.deadline, words)
+        return Loader.start(
+            [options.program], options.workers, options.deadline, words, options.allocator
+        )
 
     def look_at_events(self) -> None:
         """Sees whether the loader could write its events up to here."""

@@ -53,7 +53,7 @@ class Locator:
     def _start(self) -> Loader:
         options = self._base.options
         deadline = min(DEADLINE, options.deadline or DEADLINE)
-        return Loader.start([options.program], 1, deadline)
+        return Loader.start([options.program], 1, deadline, (), options.allocator)
 
     def messages(self, names: Iterable[str]) -> Located:
         """Returns the messages about faulty packages."""

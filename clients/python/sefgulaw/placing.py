@@ -43,7 +43,7 @@ class Placer:
     def _start(self) -> Loader:
         options = self._base.options
         deadline = min(DEADLINE, options.deadline or DEADLINE)
-        return Loader.start([options.program], 1, deadline)
+        return Loader.start([options.program], 1, deadline, (), options.allocator)
 
     def places(self, package: str) -> Mapping[str, Placed]:
         """Returns the places of the targets of a package that was loaded, by their names.

@@ -4,9 +4,10 @@ from __future__ import annotations
 
 import os
 import tomllib
-from dataclasses import dataclass, field
-from typing import Literal
+from dataclasses import dataclass, field, replace
+from typing import Literal, TypeVar
 
+from sefgulaw.allocator import CHOICES, Choice
 from sefgulaw.disk import Ignore
 
 SETTINGS_FILE = ".sefgulaw.toml"
@@ -15,6 +16,8 @@ MOST_WORKERS = 16
 
 StandIns = Literal["auto", "always", "never"]
 STAND_INS: tuple[StandIns, ...] = ("auto", "always", "never")
+
+_Word = TypeVar("_Word", bound=str)
 
 
 class BadSettings(Exception):
@@ -29,6 +32,7 @@ class Settings:
     stand_ins: StandIns = "auto"
     rules: tuple[str, ...] = ()
     workers: int = 1
+    allocator: Choice = "auto"
     idle_minutes: float = 60.0
     deadline_seconds: float = 30.0
     ignored: Ignore = field(default_factory=Ignore)
@@ -41,15 +45,7 @@ def read_settings(root: bytes) -> Settings:
     lines = _ignored_lines(os.path.join(root, os.fsencode(IGNORE_FILE)))
     given = [os.fsencode(path).strip(b"/") for path in settings.ignore]
     ignored = Ignore(frozenset(path for path in [*given, *lines] if path))
-    return Settings(
-        settings.ignore,
-        settings.stand_ins,
-        settings.rules,
-        settings.workers,
-        settings.idle_minutes,
-        settings.deadline_seconds,
-        ignored,
-    )
+    return replace(settings, ignored=ignored)
 
 
 def _read_toml(path: bytes) -> dict[str, object]:
@@ -79,27 +75,31 @@ def _ignored_lines(path: bytes) -> list[bytes]:
 
 
 def _checked(words: dict[str, object]) -> Settings:
-    names = {"ignore", "stand_ins", "rules", "workers", "idle_minutes", "deadline_seconds"}
+    names = set(Settings.__dataclass_fields__) - {"ignored"}
     for name in words:
         if name not in names:
             raise BadSettings(f"{SETTINGS_FILE}: there is no setting '{name}'")
-    stand_ins = words.get("stand_ins", "auto")
     workers = words.get("workers", 1)
-    for choice in STAND_INS:
-        if choice == stand_ins:
-            break
-    else:
-        raise BadSettings(f"{SETTINGS_FILE}: stand_ins is one of {', '.join(STAND_INS)}")
     if not isinstance(workers, int) or not 1 <= workers <= MOST_WORKERS:
         raise BadSettings(f"{SETTINGS_FILE}: workers is a whole number from 1 to {MOST_WORKERS}")
     return Settings(
         _strings(words, "ignore"),
-        choice,
+        _one_of(words, "stand_ins", STAND_INS),
         _strings(words, "rules"),
         workers,
+        _one_of(words, "allocator", CHOICES),
         _number(words, "idle_minutes", 60.0),
         _number(words, "deadline_seconds", 30.0),
     )
+
+
+def _one_of(words: dict[str, object], name: str, choices: tuple[_Word, ...]) -> _Word:
+    """Returns the one of some words that a setting has, which without it is the first one."""
+    given = words.get(name, choices[0])
+    for choice in choices:
+        if choice == given:
+            return choice
+    raise BadSettings(f"{SETTINGS_FILE}: {name} is one of {', '.join(choices)}")
 
 
 def _strings(words: dict[str, object], name: str) -> tuple[str, ...]:

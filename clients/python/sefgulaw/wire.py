@@ -19,6 +19,7 @@ from collections.abc import Callable, Sequence
 from dataclasses import dataclass
 from typing import Literal, NamedTuple, Union
 
+from sefgulaw.allocator import Allocator
 from sefgulaw.names import Path
 
 LONGEST_LINE = 1_048_576
@@ -27,6 +28,8 @@ MOST_NAMES = 256
 MOST_EDITS = 256
 EVENTS_FAILED = "events: write"
 """What the loader says at its end, last of all, where it could not write all its events."""
+NOT_PRELOADED = "ERROR: ld.so: "
+"""How the system's line begins about a library of LD_PRELOAD that it cannot load."""
 
 Why = Literal["memory", "budget", "read", "write", "killed", "deadline"]
 
@@ -180,13 +183,20 @@ class Loader:
         workers: int = 1,
         deadline: float | None = None,
         options: Sequence[str] = (),
+        allocator: Allocator = Allocator(),
     ) -> Loader:
         """Starts the loader's program with this many worker threads, and with further options."""
         words = [*program, "run", "--workers", str(workers), *options]
         pipe = subprocess.PIPE
         try:
             process = subprocess.Popen(
-                words, stdin=pipe, stdout=pipe, stderr=pipe, bufsize=0, start_new_session=True
+                words,
+                stdin=pipe,
+                stdout=pipe,
+                stderr=pipe,
+                bufsize=0,
+                start_new_session=True,
+                env=allocator.environment(workers),
             )
         except (OSError, ValueError) as error:
             reason = error.strerror if isinstance(error, OSError) and error.strerror else str(error)
@@ -293,7 +303,8 @@ class Loader:
         words = b"" if self._err.closed else self._err.read()
         said = words.decode("utf-8", "replace").strip().split("\n")
         self.close()
-        last = next((it for it in reversed(said) if it != EVENTS_FAILED), "")
+        own = [it for it in said if it != EVENTS_FAILED and not it.startswith(NOT_PRELOADED)]
+        last = own[-1] if own else ""
         known: dict[str, Why] = {
             "stop: memory": "memory",
             "stop: budget": "budget",

@@ -149,9 +149,8 @@ class Runner:
         return Done(process.returncode, out, err)
 
 
-@pytest.fixture
-def run(loader: str, tmp_path: Path) -> Iterator[Runner]:
-    """Runs the command `sefgulaw`. What it leaves running is ended after the test."""
+def running(loader: str, tmp_path: Path) -> Iterator[Runner]:
+    """Runs the command with this loader. What it leaves running is ended after the test."""
     runtime = tmp_path / "runtime"
     runtime.mkdir(mode=0o700)
     runner = Runner(loader, runtime)
@@ -161,6 +160,12 @@ def run(loader: str, tmp_path: Path) -> Iterator[Runner]:
             os.kill(int(file.read_text()), signal.SIGKILL)
         except (ProcessLookupError, ValueError):
             pass
+
+
+@pytest.fixture
+def run(loader: str, tmp_path: Path) -> Iterator[Runner]:
+    """Runs the command `sefgulaw`."""
+    yield from running(loader, tmp_path)
 
 
 @pytest.fixture

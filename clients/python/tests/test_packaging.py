@@ -17,6 +17,7 @@ from pathlib import Path
 import pytest
 from fresh_root import REPOSITORY, FreshRoot, system
 from sefgulaw import __version__
+from sefgulaw.allocator import LIBRARY
 from sefgulaw.cli.words import parser
 from sefgulaw.roots import ROOT_FILES
 from sefgulaw.settings import Settings, read_settings
@@ -123,6 +124,14 @@ def test_what_the_package_imports_is_declared() -> None:
         where = "Depends:(?:\n .*)*" if module in NEEDED else "(?:Recommends|Suggests):.*"
         assert re.search(rf"{where}{package}", control)
         assert re.search(rf"^run +{package} +module:{module}$", needed, re.M)
+
+
+def test_the_allocator_of_several_workers_is_recommended() -> None:
+    control = (REPOSITORY / "packaging" / "debian" / "control").read_text()
+    assert re.search(r"^Recommends:.*\blibjemalloc2\b", control, re.M)
+    needed = (REPOSITORY / "tools" / "install-packages").read_text()
+    for group in ("run", "test"):
+        assert re.search(rf"^{group} +libjemalloc2 +library:{re.escape(LIBRARY)}$", needed, re.M)
 
 
 def staged(*words: str) -> subprocess.CompletedProcess[str]:

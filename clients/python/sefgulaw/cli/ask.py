@@ -91,6 +91,7 @@ def _direct(at: Where, found: argparse.Namespace, asked: Params, printer: Printe
         at.loader,
         getattr(found, "workers", None),
         getattr(found, "stand_ins", None),
+        getattr(found, "allocator", None),
     )
 
     def take(line: bytes) -> None:

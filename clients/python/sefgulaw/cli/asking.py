@@ -40,8 +40,8 @@ def where(found: argparse.Namespace) -> Where:
         raise Failure(BAD_WORDS, str(error)) from None
     inside = not (here == b".." or here.startswith(b"../"))
     cwd = os.fsdecode(here) if inside and here != b"." else ""
-    says_otherwise = hasattr(found, "stand_ins") or hasattr(found, "workers")
-    is_direct = hasattr(found, "no_daemon") or says_otherwise
+    direct = ("no_daemon", "stand_ins", "workers", "allocator")
+    is_direct = any(hasattr(found, word) for word in direct)
     return Where(root, cwd, getattr(found, "loader", None), is_direct)
 
 

@@ -21,6 +21,7 @@ def bridge(found: argparse.Namespace) -> int:
         at.loader,
         getattr(found, "workers", None),
         getattr(found, "stand_ins", None),
+        getattr(found, "allocator", None),
     )
     output, bar = Output(), Bar()
     with failures(at.root):

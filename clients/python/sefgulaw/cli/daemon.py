@@ -160,6 +160,8 @@ def status_text(state: Members) -> str:
         _count(state["clients"], "client"),
         f"{_number(state.get('memory', 0)) // 1_000_000:,} MB",
     ]
+    if state.get("allocator"):
+        words.append(f"allocator {os.path.basename(str(state['allocator']))}")
     if state.get("restarts"):
         words.append(_count(state["restarts"], "restart"))
     if state.get("differences"):

@@ -7,6 +7,7 @@ import os
 from collections.abc import Callable, Iterator
 from contextlib import contextmanager
 
+from sefgulaw.allocator import NoAllocator, find_allocator
 from sefgulaw.answers import Answers
 from sefgulaw.base import Base, Options
 from sefgulaw.cli.output import BAD_WORDS, NO_ANSWER, Failure, say
@@ -36,18 +37,25 @@ def options_of(
     loader: str | None,
     workers: int | None,
     stand_ins: StandIns | None = None,
+    allocator: str | None = None,
 ) -> Options:
     """Joins the tree's settings and the command's words."""
     program = find_loader(loader)
     if program is None:
         raise Failure(NO_ANSWER, no_loader(loader))
+    number = workers or settings.workers
+    try:
+        chosen = find_allocator(allocator, settings.allocator, number, program)
+    except NoAllocator as error:
+        raise Failure(NO_ANSWER, str(error)) from None
     return Options(
         program,
-        workers or settings.workers,
+        number,
         settings.deadline_seconds,
         settings.ignored,
         stand_ins or settings.stand_ins,
         settings.rules,
+        chosen,
     )
 
 

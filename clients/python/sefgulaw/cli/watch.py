@@ -98,6 +98,7 @@ def _direct(found: argparse.Namespace, take: Callable[[bytes], None]) -> int:
         at.loader,
         getattr(found, "workers", None),
         getattr(found, "stand_ins", None),
+        getattr(found, "allocator", None),
     )
     question = Question(tuple(found.patterns), at.cwd)
     bar = Bar()

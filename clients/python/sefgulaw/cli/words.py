@@ -24,6 +24,12 @@ def _workers(text: str) -> int:
     return int(text)
 
 
+def _not_empty(text: str) -> str:
+    if not text:
+        raise argparse.ArgumentTypeError("a name that is not empty")
+    return text
+
+
 def _line_number(text: str) -> int:
     if not text.isdecimal() or int(text) < 1:
         raise argparse.ArgumentTypeError("a whole number from 1 on")
@@ -56,6 +62,8 @@ def _common() -> _Parser:
     group.add_argument("-C", dest="directory", metavar="DIR", help="the root of the tree")
     group.add_argument("--loader", metavar="PATH", help="the program sefgulaw-loader")
     group.add_argument("--workers", type=_workers, metavar="N", help="threads of the loader")
+    words = "auto, jemalloc, system, or a shared library: the loader's allocator"
+    group.add_argument("--allocator", type=_not_empty, metavar="NAME", help=words)
     group.add_argument("--stand-ins", choices=STAND_INS, help="whether rules of Bazel are replaced")
     group.add_argument("--no-daemon", action="store_true", help="ask without the daemon")
     group.add_argument("-q", "--quiet", action="store_true", help="leave out what is no answer")

@@ -8,6 +8,7 @@ import socket
 import subprocess
 import sys
 
+from sefgulaw.allocator import anywhere
 from sefgulaw.cli.output import NO_ANSWER, Failure
 from sefgulaw.daemon.client import connect
 from sefgulaw.daemon.place import NoPlace, Place
@@ -67,6 +68,7 @@ def _start(place: Place, root: bytes, loader: str, events: str | None) -> None:
             stdout=subprocess.DEVNULL,
             stderr=subprocess.DEVNULL,
             cwd="/",
+            env=anywhere(),
         )
     except OSError as error:
         raise Failure(NO_ANSWER, f"{_HINT}{error.strerror}") from None
