@@ -17,11 +17,13 @@ use Rattle.values_semantics.proofs.val.Val.TheSendSync as ValSends
 use Rattle.values_heap.proofs.heap.Heap.TheSendSync as HeapSends
 use Rattle.evaluator_state.proofs.state.SlotBlock.TheSendSync as SlotBlockSends
 use Rattle.evaluator_state.proofs.defaults.DefaultsTable.TheSendSync as DefaultsSends
+use Rattle.evaluator_state.proofs.files.Index.TheSendSync as LabelsSends
 use Rattle.evaluator_state.proofs.package_targets.PackageTargets.TheSendSync as TargetsSends
 use Rattle.evaluator_state.specs.contracts.state.Block
 use Rattle.evaluator_state.specs.contracts.sparse.SparseBlock
 use Rattle.evaluator_state.specs.contracts.state.State
 use Rattle.evaluator_state.specs.contracts.state.FileNames
+use Rattle.evaluator_state.specs.contracts.files.Files
 use Rattle.evaluator.proofs.Trees.{def_send, def_sync}
 
 -- values by places, with any laws of hashing
@@ -48,5 +50,8 @@ file_names_field_send = search (block_field_send, DefaultsSends.the_send, TextSe
 file_names_send : IsSend FileNames.the_row
 file_names_send = search (file_names_field_send, recorded_send)
 
+files_send : IsSend Files.the_row
+files_send = search (file_names_send, LabelsSends.the_send, crosses, sendable) depth 60 fits 20000
+
 pub state_field_send : IsSend (State.the_field).row
-state_field_send = search (block_send, file_names_send, HeapSends.the_field_send, TargetsSends.the_send, crosses, sendable) depth 60 fits 20000
+state_field_send = search (block_send, files_send, HeapSends.the_field_send, TargetsSends.the_send, crosses, sendable) depth 60 fits 20000

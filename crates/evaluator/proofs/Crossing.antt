@@ -34,6 +34,8 @@ use Rattle.evaluator_state.proofs.lvalues.LValue.TheLaws.TheKnot as aims
 use Rattle.evaluator_state.proofs.gathering.Collection.TheSendSync as CollectionSends
 use Rattle.evaluator_state.specs.contracts.lvalues.LValue
 use Rattle.evaluator_calls.proofs.functions.ActiveCall.TheSendSync as OpenSends
+use Rattle.evaluator_calls.proofs.module_table.Index.TheSendSync as LabelsSends
+use Rattle.evaluator_calls.specs.contracts.module_table.ModuleTable
 use Rattle.evaluator_package_calls.proofs.kinds.Package.TheSendSync as PackageSends
 use Rattle.evaluator_frames.proofs.frame.Exit.TheSendSync as ExitSends
 use Rattle.evaluator_frames.proofs.frame.Purpose.TheSendSync as PurposeSends
@@ -49,6 +51,7 @@ use Rattle.evaluator.proofs.Trees.{trees_cross}
 use Rattle.evaluator.specs.contracts.machine.Environment
 use Rattle.evaluator.specs.contracts.machine.Machine
 use Rattle.evaluator.specs.contracts.outcome.Suspended
+use Rattle.evaluator.specs.contracts.setting.Tables
 
 -- modules
 frozen_send : IsSend FrozenValue.the_row
@@ -158,5 +161,11 @@ environment_field_send = search (loaded_send, TextSends.the_send, PackageSends.t
 machine_field_send : IsSend (Machine.the_field).row
 machine_field_send = search (state_field_send, StandingSends.the_field_send, OpenSends.the_send, frame_send, crosses, sendable) depth 60 fits 20000
 
+reached_send : IsSend ModuleTable.the_row
+reached_send = search (module_send, LabelsSends.the_send, crosses, sendable) depth 60 fits 20000
+
+tables_field_send : IsSend (Tables.the_field).row
+tables_field_send = search (functions_send, reached_send, crosses, sendable) depth 60 fits 20000
+
 pub suspended_send : IsSend Suspended.the_row
-suspended_send = search (environment_field_send, functions_send, machine_field_send, control_field_send, TextSends.the_send, crosses, sendable) depth 60 fits 20000
+suspended_send = search (environment_field_send, tables_field_send, machine_field_send, control_field_send, TextSends.the_send, crosses, sendable) depth 60 fits 20000

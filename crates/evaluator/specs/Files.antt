@@ -14,7 +14,9 @@ use Rattle.evaluator_semantics.specs.Laws.{with_answers}
 use Rattle.evaluator_semantics.specs.Files.{Outcome, a_need, leading, load_items, loads, file_level, leaves, outcome_of, evaluate}
 use Rattle.evaluator_frames.specs.declared.frame.Control.{Control}
 use Rattle.evaluator_frames.specs.Frames.{Sig}
+use Rattle.evaluator_calls.specs.Once.{AreReached}
 use Rattle.evaluator.specs.declared.machine.Environment.{Environment}
+use Rattle.evaluator.specs.declared.setting.Tables.{Tables}
 use Rattle.evaluator.specs.declared.machine.Machine.{Machine}
 use Rattle.evaluator.specs.declared.machine.Stop.{Stop}
 use Rattle.evaluator.specs.declared.machine.Stop.TheVariants as s
@@ -45,6 +47,11 @@ Stands e m control = Under e (λ env. evaluate env ≡ outcome_of (left_behind e
 -- the functions of the file that is evaluated
 abbrev pub HasFunctions : Environment → List Fn → Type 0
 HasFunctions e functions = functions ≡ defs (map top_of (arc_value e.file).tops.items)
+
+-- the tables of a file: its functions, and the modules that its loads reach, where they were put together
+pub record HasTables (e : Environment) (tables : Tables) : Type 0 where
+  pub functions : HasFunctions e tables.functions
+  pub modules : AreReached tables.modules e.loads.items
 
 -- an evaluation that waits: what its file is given, and the patterns that have no answer
 pub record Waiting : Type 0 where

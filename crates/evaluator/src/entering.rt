@@ -78,7 +78,12 @@ pub fn enter(
         Ok(called) => called,
         Err(halt) => return Err(halt),
     };
-    if let Err(halt) = ensure_names(&mut m.state, e.given().loads.as_slice(), &label) {
+    if let Err(halt) = ensure_names(
+        &mut m.state,
+        e.given().loads.as_slice(),
+        e.reached(),
+        &label,
+    ) {
         return Err(halt);
     }
     match find(e, &label, &name)? {

@@ -10,7 +10,6 @@ ghost use Rattle.base_types.specs.Refusals.{memory};
 
 use crate::setting::Setting;
 use base_types::Text;
-use evaluator_calls::module_labelled;
 use std::alloc::Global;
 use std::sync::Arc;
 use syntax_tree::Def;
@@ -56,7 +55,7 @@ pub fn find(e: &Setting<'_>, label: &Text, name: &Bytes) -> Result<Option<Callee
     let (path, def) = if *label == given.label {
         (&given.path, own_function(e, name))
     } else {
-        match module_labelled(given.loads.as_slice(), label) {
+        match e.module(label) {
             Some(m) => (m.path(), function_in(m, name)),
             None => return Ok(None),
         }

@@ -2,11 +2,12 @@
 ghost use Rattle.std.specs.Prelude.{◌≡◌};
 
 use crate::machine::{Environment, Machine};
+use crate::setting::Tables;
 use base_types::Text;
 use evaluator_frames::Control;
 use evaluator_package_calls::answer_count;
 use std::marker::Model;
-use values_modules::{Functions, ModuleValue, Targets};
+use values_modules::{ModuleValue, Targets};
 
 /// A fault: its code, and the file and line where it is shown.
 #[derive(Drop)]
@@ -36,8 +37,8 @@ pub enum Outcome {
 pub struct Suspended {
     // Boxed, so that an outcome is moved as a few words.
     pub(crate) environment: Box<Environment>,
-    // The functions of the file, which are found once.
-    pub(crate) functions: Box<Functions>,
+    // What is made once for the file.
+    pub(crate) tables: Box<Tables>,
     pub(crate) machine: Box<Machine>,
     pub(crate) control: Box<Control>,
     pub(crate) patterns: Vec<Text>,
@@ -48,7 +49,7 @@ impl Model for Suspended {
     ghost use Rattle.std.specs.Coded.{code_by, coded×, coded_ℕ, coded_list};
     ghost use Rattle.evaluator.specs.declared.machine.Environment.{Environment};
     ghost use Rattle.evaluator.specs.contracts.machine.Environment as e;
-    ghost use Rattle.evaluator.specs.Files.{Waiting, Waits, HasFunctions};
+    ghost use Rattle.evaluator.specs.Files.{Waiting, Waits, HasTables};
 
     ghost Value = { Waiting };
 
@@ -56,7 +57,7 @@ impl Model for Suspended {
 
     ghost view = { λ s. record { environment = s.environment.value; patterns = s.patterns.items } };
 
-    ghost invariant = { λ s. Waits s.environment.value s.machine.value s.control.value s.patterns.items × HasFunctions s.environment.value s.functions.value };
+    ghost invariant = { λ s. Waits s.environment.value s.machine.value s.control.value s.patterns.items × HasTables s.environment.value s.tables.value };
 }
 
 // How many bytes of values an evaluation may have that is kept while it waits.

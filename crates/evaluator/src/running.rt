@@ -5,24 +5,26 @@ ghost use Rattle.evaluator_semantics.specs.World.{at_line};
 ghost use Rattle.evaluator_semantics.specs.Files.{all_steps, start, loads, leaves, file_level};
 ghost use Rattle.evaluator_state.specs.View.{world_of, here_of, Ran};
 ghost use Rattle.evaluator.specs.Machines.{env_of, Stops};
-ghost use Rattle.evaluator.specs.Files.{Stands, HasFunctions, answered, shared_texts, load_does, opens, Opened};
+ghost use Rattle.evaluator.specs.Files.{Stands, HasTables, answered, shared_texts, load_does, opens, Opened};
 ghost use Rattle.evaluator.specs.Outcomes.{Evaluates, IsLeft, Shows};
 
 use crate::machine::{Environment, Machine, Progress, Stop};
 use crate::outcome::{Fault, Outcome, Suspended};
-use crate::setting::functions_in;
+use crate::setting::{Tables, functions_in};
 use crate::turning::go;
 use base_types::{Memory, Text};
 use evaluator_calls::{file_block, frozen_module, load_items};
 use evaluator_frames::Control;
 use evaluator_package_calls::{Answers, GlobResult, targets_made};
-use evaluator_state::{Block, DefaultsTable, FileNames, PackageTargets, Position, State, tick};
+use evaluator_state::{
+    Block, DefaultsTable, FileNames, Files, PackageTargets, Position, State, tick,
+};
 use std::alloc::Global;
 use std::sync::Arc;
 use syntax_grammar::FileKind;
 use syntax_tree::{File, LoadStmt};
 use values_heap::{Halt, Heap};
-use values_modules::{Functions, Module, ModuleValue};
+use values_modules::{Module, ModuleValue};
 use values_semantics::faults;
 
 // The calls of functions that may be open at once.
@@ -61,8 +63,8 @@ pub fn first_state(alloc: Global, e: &Environment) -> Result<State, Memory>
     };
     let block = Block::new(slots)?;
     let label = e.label.share()?;
-    let mut files = Vec::new(alloc);
-    files.push(FileNames {
+    let mut files = Files::new(alloc);
+    files.add(FileNames {
         label,
         block,
         defaults: DefaultsTable::new(alloc),
@@ -211,26 +213,27 @@ fn add_answers(
 // Goes on with the evaluation of a file.
 fn go_on(
     environment: Environment,
-    functions: Functions,
+    tables: Tables,
     machine: Machine,
     control: Control,
 ) -> Result<Outcome, Memory>
     requires stands { Stands environment machine control }
-    requires functions { HasFunctions environment functions }
+    requires tables { HasTables environment tables }
     ensures { Evaluates (env_of environment) result }
 {
     let mut machine = machine;
-    match go(&mut machine, &environment, &functions, control) {
+    let (progress, tables) = go(&mut machine, &environment, tables, control);
+    match progress {
         Ok(Progress::Waits(control, patterns)) => {
             let alloc = machine.state.heap.alloc;
             let asked = share_all(alloc, patterns.as_slice())?;
             let environment = Box::new(alloc, environment)?;
-            let functions = Box::new(alloc, functions)?;
+            let tables = Box::new(alloc, tables)?;
             let machine = Box::new(alloc, machine)?;
             let control = Box::new(alloc, control)?;
             let suspended = Suspended {
                 environment,
-                functions,
+                tables,
                 machine,
                 control,
                 patterns,
@@ -258,7 +261,7 @@ pub fn run(alloc: Global, environment: Environment) -> Result<Outcome, Memory>
         return stopped(stop);
     }
     let file = Arc::try_clone(&environment.file)?;
-    let functions = functions_in(alloc, &environment)?;
+    let tables = functions_in(alloc, &environment)?;
     let machine = Machine {
         state,
         frames: Vec::new(alloc),
@@ -268,7 +271,7 @@ pub fn run(alloc: Global, environment: Environment) -> Result<Outcome, Memory>
     };
     go_on(
         environment,
-        functions,
+        tables,
         machine,
         Control::Tops { file, next: 0 },
     )
@@ -287,7 +290,7 @@ pub fn resume(suspended: Suspended, results: Vec<Arc<Vec<Text>, Global>>) -> Res
 {
     let Suspended {
         environment,
-        functions,
+        tables,
         machine,
         control,
         patterns,
@@ -300,7 +303,7 @@ pub fn resume(suspended: Suspended, results: Vec<Arc<Vec<Text>, Global>>) -> Res
     )?;
     go_on(
         environment,
-        Box::into_inner(functions),
+        Box::into_inner(tables),
         Box::into_inner(machine),
         Box::into_inner(control),
     )

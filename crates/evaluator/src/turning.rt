@@ -5,13 +5,13 @@ ghost use Rattle.evaluator_state.specs.View.{world_of};
 ghost use Rattle.evaluator_frames.specs.declared.frame.Control.TheVariants as c;
 ghost use Rattle.evaluator_frames.specs.Frames.{Goes, on, control_line, is_leave, machine_does};
 ghost use Rattle.evaluator_frames.specs.Weight.{frames_weight};
-ghost use Rattle.evaluator.specs.Files.{HasFunctions};
+ghost use Rattle.evaluator.specs.Files.{HasTables};
 ghost use Rattle.evaluator.specs.Machines.{Leads, Stops, TurnFalls, Lightens, StaysLight, Falls, StepsFall, IsOver, IsActing, means, here_in};
 
 use crate::acting::{added, begin_block, built_in, define, of_value};
 use crate::entering::{enter, leave};
 use crate::machine::{Environment, Machine, Progress, Stop};
-use crate::setting::Setting;
+use crate::setting::{Setting, Tables};
 use crate::tidying::tidy;
 use base_types::Text;
 use evaluator_frames::{Control, Frame, Signal, control_line, frame_line, go_on, hand_down};
@@ -20,7 +20,6 @@ use evaluator_state::{Position, Slot};
 use std::alloc::Global;
 use std::sync::Arc;
 use values_heap::{Builtin, Halt, Val};
-use values_modules::Functions;
 
 // Returns why a part in a line stops.
 fn stop(m: &Machine, line: usize, halt: Halt) -> Stop
@@ -254,15 +253,19 @@ fn stretch(m: &mut Machine, e: &Setting<'_>, control: Control) -> Result<Progres
 }
 
 // Makes turns until the machine ends or waits, and gives objects back between them.
-fn stretches(m: &mut Machine, e: &Setting<'_>, control: Control) -> Result<Progress, Stop>
-    ensures leads { Leads e.now (λ env. means env m.old control) result m.new }
+fn stretches(m: &mut Machine, e: &mut Setting<'_>, control: Control) -> Result<Progress, Stop>
+    ensures leads { Leads e.old (λ env. means env m.old control) result m.new }
     ensures over { IfOk result IsOver }
+    ensures given { e.new ≡ e.old }
 {
     let mut control = control;
     loop {
         match stretch(m, e, control)? {
             Progress::Goes(next) => {
                 if let Err(error) = tidy(m, &next) {
+                    return Err(Stop::Memory(error));
+                }
+                if let Err(error) = e.put_together(m.state.heap.alloc) {
                     return Err(Stop::Memory(error));
                 }
                 control = next;
@@ -272,17 +275,19 @@ fn stretches(m: &mut Machine, e: &Setting<'_>, control: Control) -> Result<Progr
     }
 }
 
-/// Makes turns until the machine ends or waits. The functions are those of the file.
+/// Makes turns until the machine ends or waits. Returns how far they lead, and the tables of the file.
 pub fn go(
     m: &mut Machine,
     e: &Environment,
-    functions: &Functions,
+    tables: Tables,
     control: Control,
-) -> Result<Progress, Stop>
-    requires { HasFunctions e.now functions.now }
-    ensures leads { Leads e.now (λ env. means env m.old control) result m.new }
-    ensures over { IfOk result IsOver }
+) -> (Result<Progress, Stop>, Tables)
+    requires { HasTables e.now tables }
+    ensures leads { Leads e.now (λ env. means env m.old control) result.0 m.new }
+    ensures over { IfOk result.0 IsOver }
+    ensures tables { HasTables e.now result.1 }
 {
-    let setting = Setting::new(e, functions);
-    stretches(m, &setting, control)
+    let mut setting = Setting::new(e, tables);
+    let progress = stretches(m, &mut setting, control);
+    (progress, setting.into_tables())
 }

@@ -10,7 +10,7 @@ either : (b : Bool) (x : Body) (o p : Option Body) → cond b (Some x) (or_else 
 either true x o p = refl
 either false x o p = refl
 
-body_at-append : (label : List ℕ) (xs ys : List Body) → body_at label (xs ++ ys) ≡ or_else (body_at label xs) (body_at label ys)
+pub body_at-append : (label : List ℕ) (xs ys : List Body) → body_at label (xs ++ ys) ≡ or_else (body_at label xs) (body_at label ys)
 body_at-append label [] ys = refl
 body_at-append label (x ∷ xs) ys = ap (λ o. cond (same_text label x.label) (Some x) o) (body_at-append label xs ys) ∙ either (same_text label x.label) x (body_at label xs) (body_at label ys)
 

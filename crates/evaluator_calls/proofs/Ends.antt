@@ -1,5 +1,5 @@
 -- What the evaluation of a file leaves.
-use Rattle.std.proofs.Common.{◌≡◌, ℕ, List, [], ◌∷◌, map, Option, Some, None, Result, Err, Vec, Global, refl, ap, sym, subst, ◌∙◌}
+use Rattle.std.proofs.Common.{◌≡◌, ℕ, List, [], ◌∷◌, Option, Some, None, Result, Err, Vec, Global, refl, ap, sym, subst, ◌∙◌}
 use Rattle.values_heap.specs.declared.halt.Halt.{Halt}
 use Rattle.values_heap.specs.declared.halt.Halt.TheVariants.{Code, Memory}
 use Rattle.values_heap.specs.View.{SaysItems}
@@ -16,8 +16,7 @@ use Rattle.evaluator_semantics.specs.Environment.{Env, defs, defaults_among}
 use Rattle.evaluator_semantics.specs.Modules.{each_once, all_bodies}
 use Rattle.evaluator_semantics.specs.Files.{frozen_names, frozen_defaults, frozen_loads, frozen_module}
 use Rattle.evaluator_state.specs.declared.state.Slot.{Slot}
-use Rattle.evaluator_state.specs.declared.state.FileNames.{FileNames}
-use Rattle.evaluator_state.specs.View.{slots_of, names_of, Ran}
+use Rattle.evaluator_state.specs.View.{slots_of, Ran}
 use Rattle.evaluator_calls.specs.Freeze.{freeze_values, freeze_names, freeze_defaults, bound_value, block_among, slot_names}
 use Rattle.evaluator_calls.proofs.Worlds.{site_then}
 
@@ -98,15 +97,11 @@ defaults_fail env here w u own s t (Memory _) e f = tt
 
 -- ---- facts under other names of what they are about
 
-pub globals_fact : (fs gs : List FileNames) (label : List ℕ) (ns ms : List (List ℕ)) (s t : Store) (r : Result (Vec Frozen Global) Halt) → fs ≡ gs → ns ≡ ms → SaysItems (freeze_names (block_among (names_at label (map names_of fs))) ns s) r t → SaysItems (freeze_names (block_among (names_at label (map names_of gs))) ms s) r t
-globals_fact fs gs label ns ms s t r e f h =
-    subst (λ (l : List (List ℕ)). SaysItems (freeze_names (block_among (names_at label (map names_of gs))) l s) r t) f
-    (subst (λ (l : List FileNames). SaysItems (freeze_names (block_among (names_at label (map names_of l))) ns s) r t) e h)
+pub globals_fact : (fs : List Names) (label : List ℕ) (ns ms : List (List ℕ)) (s t : Store) (r : Result (Vec Frozen Global) Halt) → ns ≡ ms → SaysItems (freeze_names (block_among (names_at label fs)) ns s) r t → SaysItems (freeze_names (block_among (names_at label fs)) ms s) r t
+globals_fact fs label ns ms s t r e h = subst (λ (l : List (List ℕ)). SaysItems (freeze_names (block_among (names_at label fs)) l s) r t) e h
 
-pub functions_fact : (fs gs : List FileNames) (label : List ℕ) (ns ms : List Tp) (s t : Store) (r : Result (Vec Defaults Global) Halt) → fs ≡ gs → ns ≡ ms → SaysItems (freeze_defaults (names_at label (map names_of fs)) (defs ns) s) r t → SaysItems (freeze_defaults (names_at label (map names_of gs)) (defs ms) s) r t
-functions_fact fs gs label ns ms s t r e f h =
-    subst (λ (l : List Tp). SaysItems (freeze_defaults (names_at label (map names_of gs)) (defs l) s) r t) f
-    (subst (λ (l : List FileNames). SaysItems (freeze_defaults (names_at label (map names_of l)) (defs ns) s) r t) e h)
+pub functions_fact : (fs : List Names) (label : List ℕ) (ns ms : List Tp) (s t : Store) (r : Result (Vec Defaults Global) Halt) → ns ≡ ms → SaysItems (freeze_defaults (names_at label fs) (defs ns) s) r t → SaysItems (freeze_defaults (names_at label fs) (defs ms) s) r t
+functions_fact fs label ns ms s t r e h = subst (λ (l : List Tp). SaysItems (freeze_defaults (names_at label fs) (defs l) s) r t) e h
 
 abbrev pub body_with : List Frozen → List Defaults → List ℕ → List ℕ → Fi → List ModuleValue → Body
 body_with own defaults label path file loads = record { label = label; path = path; own = own; loaded = frozen_loads file.loads loads; functions = defs file.tops; defaults = defaults }

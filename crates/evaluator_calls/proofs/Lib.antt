@@ -7,6 +7,7 @@ pub mod Freezes
 pub mod NamedTables
 pub mod ParameterPlaces
 pub mod ParameterValues
+pub mod ModuleTables
 pub mod Runs
 pub mod SparseCalls
 pub mod Still

@@ -1,5 +1,5 @@
 -- What works on the heap alone, as a piece of an evaluation.
-use Rattle.std.proofs.Common.{◌≡◌, ◌++◌, ℕ, Bool, cond, List, [], ◌∷◌, map, Option, is_some, Some, None, Result, Ok, Err, Vec, Global, refl, ap, sym, subst, ◌∙◌}
+use Rattle.std.proofs.Common.{◌≡◌, ◌++◌, ℕ, Bool, cond, List, [], ◌∷◌, Option, is_some, Some, None, Result, Ok, Err, Vec, Global, refl, ap, sym, subst, ◌∙◌}
 use Rattle.std.specs.Prelude.{option_map}
 use Rattle.values_semantics.specs.declared.val.Val.{Val}
 use Rattle.values_semantics.specs.Outcome.{Out, gives, faults, Does, and_then}
@@ -7,17 +7,15 @@ use Rattle.values_semantics.specs.Heap.{Store}
 use Rattle.values_semantics.specs.Freezing.{Fz, thaw, thaw_members}
 use Rattle.values_heap.specs.declared.halt.Halt.{Halt}
 use Rattle.values_heap.specs.declared.halt.Halt.TheVariants.{Code, Memory}
-use Rattle.evaluator_state.specs.View.{Ran, names_of}
+use Rattle.evaluator_state.specs.View.{Ran}
 use Rattle.values_modules.specs.Values.{Frozen, Defaults, Body, ModuleValue}
-use Rattle.evaluator_semantics.specs.World.{World, Names, Block, Here, Ends, ended, failed, waits, at_site, then_runs, pure, or_fault, on_heap, ◌>>=◌}
+use Rattle.evaluator_semantics.specs.World.{World, Block, Here, Ends, ended, failed, waits, at_site, then_runs, pure, or_fault, on_heap, ◌>>=◌}
 use Rattle.syntax_tree.specs.Tree.{It}
 use Rattle.evaluator_semantics.specs.Files.{load_items}
 use Rattle.evaluator_state.specs.declared.state.FunctionDefaults.{FunctionDefaults}
 use Rattle.evaluator_semantics.specs.Environment.{Env, thaw_block, thawed_defaults, thaw_body, add_names, need_names}
 use Rattle.evaluator_semantics.specs.Modules.{body_at, all_bodies, export_of}
-use Rattle.evaluator_semantics.specs.Names.{names_at, change_names, bind}
-use Rattle.evaluator_state.specs.declared.state.FileNames.{FileNames}
-use Rattle.evaluator_state.specs.Places.{NoneSo, is_file}
+use Rattle.evaluator_semantics.specs.Names.{names_at, bind}
 use Rattle.evaluator_calls.specs.Thaw.{thaw_names, thaw_defaults, behind, SaysBlock, SaysKept}
 
 pub site_then : {A B : Type 0} (here : Here) (w : World) (o : Out Store A) (k : A → Does Store B) (m : A → World → Ends B) → ((a : A) (s : Store) → m a (record w { store = s }) ≡ at_site here.site (record w { store = s }) (k a s)) → then_runs (at_site here.site w o) m ≡ at_site here.site w (and_then o k)
@@ -122,11 +120,6 @@ needed env loads label here w b is e =
 pub some_map : {A B : Type 0} (f : A → B) (o : Option A) → is_some (option_map f o) ≡ is_some o
 some_map f None = refl
 some_map f (Some a) = refl
-
--- no file has the label
-pub change_none : (label : List ℕ) (change : Names → Names) (files : List FileNames) → NoneSo (is_file label) files → change_names label change (map names_of files) ≡ map names_of files
-change_none label change [] h = refl
-change_none label change (f ∷ fs) h = ap (λ t. cond t (change (names_of f) ∷ map names_of fs) (names_of f ∷ change_names label change (map names_of fs))) h.0 ∙ ap (λ l. names_of f ∷ l) (change_none label change fs h.1)
 
 -- ---- facts under other names of what they are about
 

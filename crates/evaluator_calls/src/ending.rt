@@ -7,7 +7,8 @@ ghost use Rattle.evaluator_state.specs.View.{world_of, here_of, Ran};
 ghost use Rattle.evaluator_calls.specs.Modules.{body_of};
 
 use crate::freeze::{freeze_defaults, freeze_globals};
-use crate::module_parts::{frozen_loads, functions_of, reached_once};
+use crate::module_parts::{frozen_loads, functions_of};
+use crate::module_table::reached_once;
 use crate::own_block;
 use base_types::Memory;
 use evaluator_state::{Position, State};
@@ -60,7 +61,7 @@ pub fn frozen_module(
         Ok(names) => names,
         Err(halt) => return Err(halt),
     };
-    let files = state.files.as_slice();
+    let files = &state.files;
     let own = match freeze_globals(&mut state.heap, files, &at.label, names.as_slice()) {
         Ok(own) => own,
         Err(halt) => return Err(halt),

@@ -5,13 +5,13 @@ ghost use Rattle.evaluator_semantics.specs.Names.{slot_in, names_at};
 ghost use Rattle.evaluator_semantics.specs.Environment.{defs, defaults_among};
 ghost use Rattle.syntax_tree.specs.Statements.{top_of};
 ghost use Rattle.values_heap.specs.View.{store_of, Says, SaysItems};
-ghost use Rattle.evaluator_state.specs.View.{block_view, names_of};
+ghost use Rattle.evaluator_state.specs.View.{block_view};
 ghost use Rattle.evaluator_calls.specs.Freeze.{freeze_values, freeze_names, freeze_defaults, bound_value, block_among, slot_names, SaysFrozen, SaysDefaults};
 
+use crate::defaults_among;
 use crate::functions::defaults_in;
-use crate::{defaults_among, file_with};
 use base_types::Text;
-use evaluator_state::{Block, FileNames, Slot, slot_in};
+use evaluator_state::{Block, Files, Slot, slot_in};
 use std::sync::atomic::AtomicUsize;
 use syntax_tree::{Def, Top};
 use values_freeze::FrozenValue;
@@ -77,16 +77,16 @@ fn freeze_names(heap: &mut Heap, block: &Block, names: &[Slot]) -> Result<Vec<Bi
 /// Freezes the values of globals of a file, in order. Returns fault 4 for a global without a value, 11 or 12.
 pub fn freeze_globals(
     heap: &mut Heap,
-    files: &[FileNames],
+    files: &Files,
     label: &Text,
     names: &[Slot],
 ) -> Result<Vec<Binding>, Halt>
     ensures says { SaysItems
-        (freeze_names (block_among (names_at label.now (map names_of files.now)))
+        (freeze_names (block_among (names_at label.now files.now))
         (slot_names names.now) (store_of heap.old)) result (store_of heap.new) }
     ensures steps { IfOk result (λ _. heap.new.steps ≤ heap.old.steps) }
 {
-    match file_with(files, label) {
+    match files.with_label(label) {
         Some(file) => freeze_names(heap, &file.block, names),
         None => {
             let nothing = Block::new(Vec::new(heap.alloc))?;
@@ -96,9 +96,9 @@ pub fn freeze_globals(
 }
 
 // Freezes the defaults of a function, in order. Returns fault 11 or 12.
-fn freeze_of(heap: &mut Heap, files: &[FileNames], label: &Text, f: &Def) -> Result<Defaults, Halt>
+fn freeze_of(heap: &mut Heap, files: &Files, label: &Text, f: &Def) -> Result<Defaults, Halt>
     ensures says { SaysDefaults f.now.name (freeze_values
-        (defaults_among f.now.name (names_at label.now (map names_of files.now)))
+        (defaults_among f.now.name (names_at label.now files.now))
         (store_of heap.old)) result (store_of heap.new) }
     ensures steps { IfOk result (λ _. heap.new.steps ≤ heap.old.steps) }
 {
@@ -113,11 +113,11 @@ fn freeze_of(heap: &mut Heap, files: &[FileNames], label: &Text, f: &Def) -> Res
 /// Freezes the defaults of a file's functions, in order. Returns fault 11 or 12.
 pub fn freeze_defaults(
     heap: &mut Heap,
-    files: &[FileNames],
+    files: &Files,
     label: &Text,
     tops: &[Top],
 ) -> Result<Vec<Defaults>, Halt>
-    ensures says { SaysItems (freeze_defaults (names_at label.now (map names_of files.now))
+    ensures says { SaysItems (freeze_defaults (names_at label.now files.now)
         (defs (map top_of tops.now)) (store_of heap.old)) result (store_of heap.new) }
     ensures steps { IfOk result (λ _. heap.new.steps ≤ heap.old.steps) }
 {

@@ -1,14 +1,14 @@
 //! Functions by their names, their defaults, and the functions that are being called.
-ghost use Rattle.std.specs.Prelude.{◌≡◌, map, option_map};
+ghost use Rattle.std.specs.Prelude.{◌≡◌, map};
 ghost use Rattle.evaluator_semantics.specs.Environment.{defaults_among, defaults_of};
 ghost use Rattle.evaluator_semantics.specs.Calls.{is_running};
 ghost use Rattle.evaluator_semantics.specs.Names.{names_at};
 ghost use Rattle.evaluator_state.specs.SharedDefaults.{default_values};
-ghost use Rattle.evaluator_state.specs.View.{world_of, names_of};
+ghost use Rattle.evaluator_state.specs.View.{world_of};
 ghost use Rattle.evaluator_calls.specs.View.{running_of, open_of};
 
 use base_types::Text;
-use evaluator_state::{FileNames, State};
+use evaluator_state::{Files, State};
 use std::alloc::Global;
 use std::sync::Arc;
 use values_heap::Val;
@@ -40,29 +40,15 @@ pub fn is_running(running: &[ActiveCall], label: &Text, name: &Text) -> bool
     is_among(running, label, name)
 }
 
-/// Returns the file with a label, of those whose names are on the heap.
-pub fn file_with<'a>(files: &'a [FileNames], label: &Text) -> Option<&'a FileNames>
-    ensures { option_map (λ f. names_of f.now) result ≡ names_at label.now
-        (map names_of files.now) }
-{
-    for file in files.iter() {
-        if *label == file.label {
-            return Some(file);
-        }
-    }
-    None
-}
-
 /// Returns the values of a function's defaults, in these files, or none if the file has no such function.
 pub fn defaults_among<'a>(
-    files: &'a [FileNames],
+    files: &'a Files,
     label: &Text,
     name: &Text,
 ) -> Option<&'a Arc<Vec<Val>, Global>>
-    ensures { default_values result ≡ defaults_among name.now
-        (names_at label.now (map names_of files.now)) }
+    ensures { default_values result ≡ defaults_among name.now (names_at label.now files.now) }
 {
-    match file_with(files, label) {
+    match files.with_label(label) {
         Some(file) => file.defaults.defaults_named(name),
         None => None,
     }
@@ -86,5 +72,5 @@ pub fn defaults_of<'a>(
 ) -> Option<&'a Arc<Vec<Val>, Global>>
     ensures { default_values result ≡ defaults_of label.now name.now (world_of state.now) }
 {
-    defaults_among(state.files.as_slice(), label, name)
+    defaults_among(&state.files, label, name)
 }

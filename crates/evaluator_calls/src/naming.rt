@@ -3,8 +3,9 @@ ghost use Rattle.std.specs.Prelude.{◌≡◌, IfOk};
 ghost use Rattle.evaluator_semantics.specs.World.{Here};
 ghost use Rattle.evaluator_semantics.specs.Environment.{Env, thaw_body, need_names};
 ghost use Rattle.evaluator_state.specs.View.{world_of, Ran};
+ghost use Rattle.evaluator_calls.specs.Once.{AreReached};
 
-use crate::file_with;
+use crate::module_table::ModuleTable;
 use crate::reaching::module_labelled;
 use crate::thaw::{thaw_defaults, thaw_names};
 use base_types::Text;
@@ -33,7 +34,7 @@ fn thaw_names_of(state: &mut State, body: &Module) -> Result<(), Halt>
     let label = body.label().share()?;
     let block = Block::new(slots)?;
     let defaults = DefaultsTable::of_list(kept)?;
-    state.files.push(FileNames {
+    state.files.add(FileNames {
         label,
         block,
         defaults,
@@ -46,16 +47,22 @@ fn thaw_names_of(state: &mut State, body: &Module) -> Result<(), Halt>
 /// # Errors
 ///
 /// Returns `Halt::Memory` if an allocation fails.
-pub fn ensure_names(state: &mut State, loads: &[ModuleValue], label: &Text) -> Result<(), Halt>
+pub fn ensure_names(
+    state: &mut State,
+    loads: &[ModuleValue],
+    reached: &Option<ModuleTable>,
+    label: &Text,
+) -> Result<(), Halt>
+    requires { AreReached reached.now loads.now }
     ensures says { (env : Env) (here : Here) → env.loads ≡ loads.now
         → Ran here.site (need_names env label.now here (world_of state.old)) result
         (world_of state.new) }
     ensures steps { IfOk result (λ _. state.new.heap.steps ≡ state.old.heap.steps) }
 {
-    if file_with(state.files.as_slice(), label).is_some() {
+    if state.files.with_label(label).is_some() {
         return Ok(());
     }
-    match module_labelled(loads, label) {
+    match module_labelled(loads, reached, label) {
         Some(body) => thaw_names_of(state, body),
         None => Ok(()),
     }

@@ -1,7 +1,9 @@
 //! Modules that loads reach, and what they export.
 ghost use Rattle.std.specs.Prelude.{◌≡◌, ◌∷◌, option_map};
 ghost use Rattle.evaluator_semantics.specs.Modules.{frozen_at, is_private, export_of, body_at, all_bodies};
+ghost use Rattle.evaluator_calls.specs.Once.{AreReached};
 
+use crate::module_table::ModuleTable;
 use base_types::Text;
 use values_freeze::FrozenValue;
 use values_modules::{Binding, Module, ModuleValue};
@@ -29,8 +31,8 @@ fn module_in<'a>(loaded: &'a ModuleValue, label: &Text) -> Option<&'a Module>
     module_at(loaded.reachable(), label)
 }
 
-/// Returns the module with a label, of those that loads reach.
-pub fn module_labelled<'a>(loads: &'a [ModuleValue], label: &Text) -> Option<&'a Module>
+// Returns the module with a label, of those that loads reach, by a search.
+fn module_among<'a>(loads: &'a [ModuleValue], label: &Text) -> Option<&'a Module>
     ensures { option_map (λ m. m.now) result ≡ body_at label.now (all_bodies loads.now) }
 {
     for loaded in loads.iter() {
@@ -39,6 +41,21 @@ pub fn module_labelled<'a>(loads: &'a [ModuleValue], label: &Text) -> Option<&'a
         }
     }
     None
+}
+
+/// Returns the module with a label, of those that loads reach. Where these were put together, it takes no search.
+pub fn module_labelled<'a>(
+    loads: &'a [ModuleValue],
+    reached: &'a Option<ModuleTable>,
+    label: &Text,
+) -> Option<&'a Module>
+    requires { AreReached reached.now loads.now }
+    ensures { option_map (λ m. m.now) result ≡ body_at label.now (all_bodies loads.now) }
+{
+    match reached {
+        Some(reached) => reached.with_label(label),
+        None => module_among(loads, label),
+    }
 }
 
 /// Returns the value of a name.

@@ -14,12 +14,12 @@ use Rattle.evaluator_state.specs.declared.state.Scope.{Scope}
 use Rattle.evaluator_state.specs.declared.state.State.{State}
 use Rattle.evaluator_state.specs.declared.state.Position.{Position}
 use Rattle.evaluator_semantics.specs.Names.{or_else, slot_among, file_slot, names_at}
-use Rattle.evaluator_state.specs.View.{here_of, block_view, names_of, Ran, RanItems}
+use Rattle.evaluator_state.specs.View.{here_of, block_view, Ran, RanItems}
 use Rattle.evaluator_state.specs.Scope.{world_in}
 
 -- whether a name is universal where code stands in an evaluation
 abbrev pub free_at : Position → State → List ℕ → Bool
-free_at standing s x = not (is_some (or_else (slot_among x (map block_view s.blocks.items)) (file_slot x (names_at standing.label (map names_of s.files.items)))))
+free_at standing s x = not (is_some (or_else (slot_among x (map block_view s.blocks.items)) (file_slot x (names_at standing.label s.files))))
 
 abbrev pub Does : Scope → (Env → Call → Here → Runs Val) → Store → Result Val Halt → Store → Type 0
 Does scope does old result new =

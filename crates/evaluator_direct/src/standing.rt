@@ -23,7 +23,7 @@ pub fn is_quiet_at(state: &State, at: &Position, e: &Expr) -> bool
 {
     let scope = Scope {
         blocks: state.blocks.as_slice(),
-        files: state.files.as_slice(),
+        files: &state.files,
         at,
     };
     is_quiet_and_light(&scope, e)
@@ -41,7 +41,7 @@ pub fn value_at(state: &mut State, at: &Position, e: &Expr) -> Result<Val, Halt>
 {
     let scope = Scope {
         blocks: state.blocks.as_slice(),
-        files: state.files.as_slice(),
+        files: &state.files,
         at,
     };
     value(&mut state.heap, &scope, e)
@@ -55,7 +55,7 @@ pub fn are_quiet_at(state: &State, at: &Position, es: &[Expr]) -> bool
 {
     let scope = Scope {
         blocks: state.blocks.as_slice(),
-        files: state.files.as_slice(),
+        files: &state.files,
         at,
     };
     are_quiet_and_light(&scope, es)
@@ -73,7 +73,7 @@ pub fn values_at(state: &mut State, at: &Position, es: &[Expr]) -> Result<Vec<Va
 {
     let scope = Scope {
         blocks: state.blocks.as_slice(),
-        files: state.files.as_slice(),
+        files: &state.files,
         at,
     };
     values(&mut state.heap, &scope, es)

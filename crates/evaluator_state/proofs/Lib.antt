@@ -1,6 +1,7 @@
 pub mod Adding
 pub mod Distinct
 pub mod HeapPieces
+pub mod Labels
 pub mod Latest
 pub mod ListEnds
 pub mod Searches

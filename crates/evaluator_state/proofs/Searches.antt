@@ -92,6 +92,10 @@ change_there label change [] i d f' lt h e is = absurd (omega arith)
 change_there label change (f ∷ fs) zero d f' lt h e is = ap (λ t. cond t (change (names_of f) ∷ map names_of fs) (names_of f ∷ change_names label change (map names_of fs))) e ∙ ap (λ l. l ∷ map names_of fs) (sym is)
 change_there label change (f ∷ fs) (suc i) d f' lt h e is = ap (λ t. cond t (change (names_of f) ∷ map names_of fs) (names_of f ∷ change_names label change (map names_of fs))) h.0 ∙ ap (λ l. names_of f ∷ l) (change_there label change fs i d f' (omega arith) h.1 e is)
 
+pub change_none : (label : List ℕ) (change : Names → Names) (files : List FileNames) → NoneSo (is_file label) files → change_names label change (map names_of files) ≡ map names_of files
+change_none label change [] h = refl
+change_none label change (f ∷ fs) h = ap (λ t. cond t (change (names_of f) ∷ map names_of fs) (names_of f ∷ change_names label change (map names_of fs))) h.0 ∙ ap (λ l. names_of f ∷ l) (change_none label change fs h.1)
+
 first_test : (b : Bool) (f : Builtin) (o other : Option Builtin) → cond b (Some f) (or_else o other) ≡ or_else (cond b (Some f) o) other
 first_test true f o other = refl
 first_test false f o other = refl

@@ -1,4 +1,6 @@
 pub mod AimView
+pub mod Blocks
+pub mod FileLabels
 pub mod Newest
 pub mod Once
 pub mod Places

@@ -1,42 +1,21 @@
 -- What the state of an evaluation in memory is to the definitions, and what a call ensures that does a piece of it.
 pub use Rattle.evaluator_state.specs.Newest.{kept_of}
-use Rattle.std.specs.Prelude.{◌≡◌, ℕ, List, map, Option, Result, Ok, Err}
+pub use Rattle.evaluator_state.specs.Blocks.{slot_of, slots_of, block_of, block_view, names_of}
+use Rattle.std.specs.Prelude.{◌≡◌, ℕ, List, map, Result, Ok, Err}
 use Rattle.std.specs.declared.vec.Vec.{Vec}
 use Rattle.std.specs.declared.alloc.Global.{Global}
-use Rattle.values_semantics.specs.declared.val.Val.{Val}
 use Rattle.values_semantics.specs.Builtins.{builtin_name}
 use Rattle.values_heap.specs.declared.halt.Halt.{Halt}
 use Rattle.values_heap.specs.declared.halt.Halt.TheVariants.{Code, Memory}
 use Rattle.values_heap.specs.View.{store_of}
 use Rattle.values_modules.specs.Values as v
-use Rattle.evaluator_semantics.specs.World.{World, Block, Names, Site, Here, Ends, ended, failed}
-use Rattle.evaluator_state.specs.declared.state.Slot.{Slot}
-use Rattle.evaluator_state.specs.declared.state.Block as m
-use Rattle.evaluator_state.specs.declared.state.Block.TheVariants as b
-use Rattle.evaluator_state.specs.Sparse.{sparse_view}
-use Rattle.evaluator_state.specs.declared.state.FileNames.{FileNames}
+use Rattle.evaluator_semantics.specs.World.{World, Site, Here, Ends, ended, failed}
 use Rattle.evaluator_state.specs.declared.state.Attribute.{Attribute}
 use Rattle.evaluator_state.specs.declared.state.Attribute.TheVariants as a
 use Rattle.evaluator_state.specs.declared.state.TargetAttribute.{TargetAttribute}
 use Rattle.evaluator_state.specs.declared.state.Target.{Target}
 use Rattle.evaluator_state.specs.declared.state.State.{State}
 use Rattle.evaluator_state.specs.declared.state.Position.{Position}
-
-abbrev pub slot_of : Slot → List ℕ × Option Val
-slot_of s = (s.name, s.value)
-
-abbrev pub slots_of : List Slot → Block
-slots_of slots = map slot_of slots
-
-abbrev pub block_of : Vec Slot Global → Block
-block_of block = map slot_of block.items
-
-abbrev pub block_view : m.Block → Block
-block_view (b.Slots s) = block_of s.slots
-block_view (b.Sparse s) = sparse_view s
-
-abbrev pub names_of : FileNames → Names
-names_of f = record { label = f.label; block = block_view f.block; defaults = f.defaults }
 
 abbrev pub attribute_of : Attribute → v.Attribute
 attribute_of (a.Single text) = v.single text
@@ -52,7 +31,7 @@ abbrev pub world_of : State → World
 world_of s = record {
   store = store_of s.heap;
   blocks = map block_view s.blocks.items;
-  files = map names_of s.files.items;
+  files = s.files;
   targets = map target_of s.targets;
 }
 

@@ -2,10 +2,10 @@
 ghost use Rattle.std.specs.Prelude.{◌≡◌, true, false, map, is_some, Some, IfSome, IfOk, OnOk};
 ghost use Rattle.evaluator_semantics.specs.Names.{slot_in, slot_among, bind_in, bind_among};
 ghost use Rattle.evaluator_state.specs.View.{block_of, block_view};
-ghost use Rattle.evaluator_state.specs.Places.{FirstPlace, FirstSo, is_slot, is_file};
+ghost use Rattle.evaluator_state.specs.Places.{FirstSo, is_slot};
 
 use crate::places::{is_at, place_in};
-use crate::state::{Block, FileNames, SlotBlock};
+use crate::state::{Block, SlotBlock};
 use base_types::{Memory, Text};
 use std::sync::atomic::{AtomicUsize, Ordering};
 use values_heap::Val;
@@ -70,18 +70,6 @@ pub fn slot_among(blocks: &[Block], x: &Text, last: &AtomicUsize) -> Option<Opti
     for block in blocks.iter() {
         if let Some(value) = slot_in(block, x, last) {
             return Some(value);
-        }
-    }
-    None
-}
-
-/// Returns the place of the file with a label.
-pub fn file_at(files: &[FileNames], label: &Text) -> Option<usize>
-    ensures { FirstPlace (is_file label.now) files.now result }
-{
-    for i in 0..files.len() {
-        if *label == files[i].label {
-            return Some(i);
         }
     }
     None

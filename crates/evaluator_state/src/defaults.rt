@@ -87,8 +87,11 @@ fn values_at<'a>(
     }
 }
 
-// Returns the names of functions with one more, if it is not among them.
-fn with_name(index: Option<IndexSet<Text>>, name: &Text) -> Result<Option<IndexSet<Text>>, Memory>
+/// Returns names with one more, if it is not among them.
+pub(crate) fn with_name(
+    index: Option<IndexSet<Text>>,
+    name: &Text,
+) -> Result<Option<IndexSet<Text>>, Memory>
     ensures { IfOk result
         (λ now. IfSome now
         (λ s. IsSomeAnd index (λ o. (has_name name.now o.keys ≡ false)

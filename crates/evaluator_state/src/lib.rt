@@ -5,6 +5,7 @@
 mod blocks;
 mod calling;
 mod defaults;
+mod files;
 mod gathering;
 mod lvalue_marking;
 mod lvalues;
@@ -21,6 +22,7 @@ mod universal;
 pub use blocks::slot_in;
 pub use calling::{add, call_builtin, call_method};
 pub use defaults::DefaultsTable;
+pub use files::Files;
 pub use gathering::{Collection, add_entry, add_member, add_new_entry, empty_collection};
 pub use lvalue_marking::{mark_collection, mark_lvalue, mark_lvalues};
 pub use lvalues::{LValue, read_lvalue, store};

@@ -67,10 +67,16 @@ fn mark_file(reached: &mut Marks, file: &FileNames) -> Result<(), Memory> {
     file.defaults.reach(reached)
 }
 
-/// Marks the values of all names and defaults of an evaluation as reached.
-pub fn mark_names(reached: &mut Marks, state: &State) -> Result<(), Memory> {
-    for file in state.files.iter() {
+/// Marks the values of the names and defaults of files as reached.
+pub(crate) fn mark_files(reached: &mut Marks, files: &[FileNames]) -> Result<(), Memory> {
+    for file in files {
         mark_file(reached, file)?;
     }
+    Ok(())
+}
+
+/// Marks the values of all names and defaults of an evaluation as reached.
+pub fn mark_names(reached: &mut Marks, state: &State) -> Result<(), Memory> {
+    state.files.reach(reached)?;
     mark_blocks(reached, state.blocks.as_slice())
 }

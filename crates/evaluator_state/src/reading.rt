@@ -1,15 +1,16 @@
 //! Reading and binding of names.
 ghost use Rattle.std.specs.Prelude.{◌≡◌, ℕ, List, map};
-ghost use Rattle.evaluator_semantics.specs.Names.{or_else, slot_among, file_slot, names_at, read, read_universal, bind, bind_global, is_native_name};
-ghost use Rattle.evaluator_state.specs.View.{world_of, here_of, block_view, names_of, Ran};
+ghost use Rattle.evaluator_semantics.specs.Names.{or_else, slot_among, file_slot, names_at, read, read_universal, bind, is_native_name};
+ghost use Rattle.evaluator_state.specs.View.{world_of, here_of, block_view, Ran};
 ghost use Rattle.evaluator_state.specs.Scope.{world_in};
 ghost use Rattle.values_semantics.specs.Heap.{Store};
 ghost use Rattle.values_modules.specs.Values.{Target};
 ghost use Rattle.evaluator_semantics.specs.World.{World};
 ghost use Rattle.syntax_tree.specs.Tree as tree;
 
-use crate::blocks::{bind_among, bind_in, file_at, innermost, slot_among, slot_in};
-use crate::state::{FileNames, Position, Scope, State};
+use crate::blocks::{bind_among, innermost, slot_among, slot_in};
+use crate::files::Files;
+use crate::state::{Position, Scope, State};
 use crate::universal::{is_native, universal};
 use base_types::Text;
 use std::sync::atomic::AtomicUsize;
@@ -17,11 +18,11 @@ use values_heap::{Halt, Val};
 use values_semantics::faults;
 
 // Returns what a file has at a name.
-fn file_slot(files: &[FileNames], label: &Text, x: &Text, last: &AtomicUsize) -> Option<Option<Val>>
-    ensures { result ≡ file_slot x.now (names_at label.now (map names_of files.now)) }
+fn file_slot(files: &Files, label: &Text, x: &Text, last: &AtomicUsize) -> Option<Option<Val>>
+    ensures { result ≡ file_slot x.now (names_at label.now files.now) }
 {
-    match file_at(files, label) {
-        Some(i) => slot_in(&files[i].block, x, last),
+    match files.with_label(label) {
+        Some(file) => slot_in(&file.block, x, last),
         None => None,
     }
 }
@@ -30,7 +31,7 @@ fn file_slot(files: &[FileNames], label: &Text, x: &Text, last: &AtomicUsize) ->
 /// found last.
 pub fn slot_in_scope(scope: &Scope<'_>, x: &Text, last: &AtomicUsize) -> Option<Option<Val>>
     ensures { result ≡ or_else (slot_among x.now (map block_view scope.now.blocks.now))
-        (file_slot x.now (names_at scope.now.at.now.label (map names_of scope.now.files.now))) }
+        (file_slot x.now (names_at scope.now.at.now.label scope.now.files.now)) }
 {
     match slot_among(scope.blocks, x, last) {
         Some(value) => Some(value),
@@ -42,11 +43,11 @@ pub fn slot_in_scope(scope: &Scope<'_>, x: &Text, last: &AtomicUsize) -> Option<
 /// found last.
 pub fn slot(state: &State, at: &Position, x: &Text, last: &AtomicUsize) -> Option<Option<Val>>
     ensures { result ≡ or_else (slot_among x.now (map block_view state.now.blocks.items))
-        (file_slot x.now (names_at at.now.label (map names_of state.now.files.items))) }
+        (file_slot x.now (names_at at.now.label state.now.files)) }
 {
     let scope = Scope {
         blocks: state.blocks.as_slice(),
-        files: state.files.as_slice(),
+        files: &state.files,
         at,
     };
     slot_in_scope(&scope, x, last)
@@ -90,7 +91,7 @@ pub fn read(state: &State, at: &Position, x: &Text, last: &AtomicUsize) -> Resul
 {
     let scope = Scope {
         blocks: state.blocks.as_slice(),
-        files: state.files.as_slice(),
+        files: &state.files,
         at,
     };
     read_in_scope(&scope, x, last)
@@ -123,32 +124,5 @@ pub fn bind(
     if bind_among(&mut state.blocks, x, last, value)? {
         return Ok(());
     }
-    bind_global(&mut state.files, at, x, last, value)
-}
-
-// Binds a global that is not bound.
-fn bind_global(
-    files: &mut Vec<FileNames>,
-    at: &Position,
-    x: &Text,
-    last: &AtomicUsize,
-    value: Val,
-) -> Result<(), Halt>
-    ensures { (line : ℕ) (running : List (List ℕ × List ℕ)) (u : World) → u.files
-        ≡ map names_of files.old.items → let here = here_of at.now line running in
-        Ran here.site (bind_global (file_slot x.now (names_at at.now.label u.files)) x.now value
-        here u) result (record u { files = map names_of files.new.items }) }
-{
-    let Some(i) = file_at(files.as_slice(), &at.label) else {
-        return Err(Halt::Code(faults::BOUND_TWICE));
-    };
-    let file = &mut files[i];
-    match slot_in(&file.block, x, last) {
-        Some(None) => {
-            bind_in(&mut file.block, x, last, value)?;
-            Ok(())
-        }
-        Some(Some(_)) => Err(Halt::Code(faults::BOUND_TWICE)),
-        None => Err(Halt::Code(faults::BOUND_TWICE)),
-    }
+    state.files.bind_global(at, x, last, value)
 }

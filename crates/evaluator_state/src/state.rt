@@ -4,6 +4,7 @@ ghost use Rattle.std.specs.Option.{ForSome};
 ghost use Rattle.evaluator_state.specs.Once.{names_in, differ};
 
 use crate::defaults::DefaultsTable;
+use crate::files::Files;
 use crate::package_targets::PackageTargets;
 use crate::sparse::SparseBlock;
 use base_types::Text;
@@ -145,7 +146,7 @@ impl Drop for Target {
 pub struct State {
     pub heap: Heap,
     pub blocks: Vec<Block>,
-    pub files: Vec<FileNames>,
+    pub files: Files,
     pub targets: PackageTargets,
 }
 
@@ -184,6 +185,6 @@ impl Drop for Position {
 #[derive(Drop)]
 pub struct Scope<'a> {
     pub blocks: &'a [Block],
-    pub files: &'a [FileNames],
+    pub files: &'a Files,
     pub at: &'a Position,
 }

@@ -1,13 +1,15 @@
-use Rattle.std.proofs.Common.{Option, Err, sym, ap, subst, ◌∙◌}
+use Rattle.std.proofs.Common.{List, Option, Err, sym, ap, subst, ◌∙◌}
 use Rattle.std.specs.Arc.{arc_value}
 use Rattle.values_semantics.specs.declared.val.Val.{Val}
 use Rattle.values_semantics.specs.Heap.{Obj}
 use Rattle.syntax_tree.specs.Statements.{fn_of}
+use Rattle.values_modules.specs.Values.{ModuleValue}
 use Rattle.evaluator_semantics.specs.World.{Ends, then_runs, pure}
 use Rattle.evaluator_semantics.specs.Arguments.{plain_part, named_part}
 use Rattle.evaluator_semantics.specs.Expressions.{call_object}
 use Rattle.evaluator_semantics.specs.Calls.{call}
 use Rattle.evaluator_semantics.specs.Laws.{with_answers}
+use Rattle.evaluator_calls.specs.Once.{AreReached}
 use Rattle.evaluator_state.specs.View.{world_of}
 use Rattle.evaluator_frames.specs.declared.frame.Control.{Control}
 use Rattle.evaluator_frames.specs.Frames.{a_value, Goes, on, stack_does}
@@ -17,6 +19,9 @@ use Rattle.evaluator.specs.Finding.{IsFound}
 use Rattle.evaluator.specs.declared.finding.Callee.{Callee}
 use Rattle.evaluator.proofs.Calls.{no_call, needs_goes, found_calls}
 use Rattle.evaluator.proofs.entering.enter.Goals as goal
+
+pub ensure_names-requires : goal.ensure_names-requires
+ensure_names-requires c = subst (λ (l : List ModuleValue). AreReached c.reached.result.now l) (sym (c.as_slice.ensures.value ∙ ap (λ (g : Environment). g.loads.items) c.given.ensures)) c.reached.ensures
 
 pub returns-in-Err-ensure_names-clause-goes : goal.returns-in-Err-ensure_names-clause-goes
 returns-in-Err-ensure_names-clause-goes c = λ more knows.

@@ -27,4 +27,4 @@ go_on-requires c =
     let running = c.new-2.result in
     let m : Machine = record { state = c.open_file.new.state; frames = c.new.result; at = at; running = running; left = 64 } in
     let here = ap (λ (s : Position). here_of s s.line (running_of running.items)) c.in_ok-at.ensures ∙ ap (λ (l : List ActiveCall). here_of (level_of env) 0 (running_of l)) c.new-2.ensures.items in
-    record { stands = stands_first e m c.in_ok-file.file c.in_ok-file.ensures refl c.new.ensures.items here opened; functions = c.in_ok-functions.ensures }
+    record { stands = stands_first e m c.in_ok-file.file c.in_ok-file.ensures refl c.new.ensures.items here opened; tables = c.in_ok-tables.ensures }

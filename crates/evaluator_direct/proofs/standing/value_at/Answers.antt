@@ -5,16 +5,14 @@ use Rattle.syntax_tree.specs.View.{tree_of}
 use Rattle.evaluator_semantics.specs.World.{World}
 use Rattle.evaluator_semantics.specs.Expressions.{value}
 use Rattle.evaluator_state.specs.declared.state.Block.{Block}
-use Rattle.evaluator_state.specs.declared.state.FileNames.{FileNames}
-use Rattle.evaluator_state.specs.View.{Ran, here_of, block_view, names_of, target_of}
+use Rattle.evaluator_state.specs.View.{Ran, here_of, block_view, target_of}
 use Rattle.evaluator_direct.proofs.standing.value_at.Goals as goal
 
 pub returns-clause-says : goal.returns-clause-says
 returns-clause-says c = λ env call line running.
     let s = c.args.state.now in
     let here = here_of c.args.at.now line running in
-    let w : Store → List Block → List FileNames → World = λ store bs fs. record { store = store; blocks = map block_view bs; files = map names_of fs; targets = map target_of s.targets } in
-    let Says = λ (bs : List Block) (fs : List FileNames). Ran here.site (value env call (tree_of c.args.e.now) here (w (store_of s.heap) bs fs)) c.value.result (w (store_of c.value.new.heap) bs fs) in
-    subst (λ (fs : List FileNames). Says s.blocks.items fs) c.as_slice-2.ensures.value
-    (subst (λ (bs : List Block). Says bs c.as_slice-2.result.now) c.as_slice.ensures.value
-    (c.value.ensures.says env call line running (map target_of s.targets)))
+    let w : Store → List Block → World = λ store bs. record { store = store; blocks = map block_view bs; files = s.files; targets = map target_of s.targets } in
+    let Says = λ (bs : List Block). Ran here.site (value env call (tree_of c.args.e.now) here (w (store_of s.heap) bs)) c.value.result (w (store_of c.value.new.heap) bs) in
+    subst (λ (bs : List Block). Says bs) c.as_slice.ensures.value
+    (c.value.ensures.says env call line running (map target_of s.targets))
