@@ -88,6 +88,13 @@ def includes_with_a_star(count: int) -> list[Command]:
     return [*files, put("s/BUILD", f"x = glob({names})\n"), load("s")]
 
 
+def excludes_with_a_star(count: int) -> list[Command]:
+    """A glob of so many files, with as many excludes that have a star and match none."""
+    files = [put(f"s/f{number}", "") for number in range(count)]
+    text = f"""glob(["f*"], exclude = ["*x" + str(i) + "*" for i in range({count})])\n"""
+    return [*files, put("s/BUILD", text), load("s")]
+
+
 def globs(count: int) -> list[Command]:
     """So many globs with one include each."""
     text = f'x = [0 for i in range({count}) if glob(["a" + str(i)])]\n'
@@ -164,6 +171,18 @@ def loaded_tables(count: int) -> list[Command]:
     return [put("m/BUILD", ""), *modules, put("s/BUILD", loads + looks), load("s")]
 
 
+def calls_among_modules(count: int) -> list[Command]:
+    """So many modules of one function each, called by a package, and then a function that reads a
+    global of its file sixteen times as often."""
+    modules = [put(f"m/{it}.bzl", f"def f{it}(): pass\n") for it in range(count)]
+    reads = f"    for i in range({count}):\n        for j in range(16): G\n"
+    reader = put("m/g.bzl", f"G = 0\ndef g():\n{reads}")
+    loads = "".join(f'load("//m:{it}.bzl","f{it}")\n' for it in range(count))
+    calls = "".join(f"f{it}()\n" for it in range(count))
+    text = f'{loads}load("//m:g.bzl","g")\n{calls}g()\n'
+    return [put("m/BUILD", ""), *modules, reader, put("s/BUILD", text), load("s")]
+
+
 def targets(count: int) -> list[Command]:
     """So many targets of one package."""
     text = f'x = [filegroup(name = "t" + str(i)) for i in range({count})]\nfail("last")\n'
@@ -182,6 +201,7 @@ GROWTHS: dict[str, tuple[Callable[[int], list[Command]], int, str]] = {
     "includes of a glob that are files": (includes_of_files, 32_768, EMPTY),
     "includes of a glob in descending order": (includes_from_the_last, 16_384, EMPTY),
     "includes of a glob with stars": (includes_with_a_star, 16_384, EMPTY),
+    "excludes of a glob with stars": (excludes_with_a_star, 16_384, EMPTY),
     "globs of one include": (globs, 3_000, EMPTY),
     "globs of includes that have answers": (answered_globs, 16_384, EMPTY),
     "globs of a large evaluation": (globs_of_a_large_evaluation, 3_000, EMPTY),
@@ -192,6 +212,7 @@ GROWTHS: dict[str, tuple[Callable[[int], list[Command]], int, str]] = {
     "strings that nothing reaches": (short_strings, 20, '{"exports":["f"]}'),
     "names of a load": (loaded_names, 12_000, EMPTY),
     "tables that are loaded": (loaded_tables, 450, EMPTY),
+    "calls among modules": (calls_among_modules, 3_300, EMPTY),
     "targets of a package": (targets, 32_768, '"line":2,"path":"s/BUILD"'),
 }
 

@@ -16,7 +16,7 @@ from style.tree import Tree
 LIST = "crates.txt"
 LAYERS = ["base", "files", "syntax", "values", "evaluator", "engine", "functions", "loader"]
 FIXED = {
-    "files": ["labels", "filetree", "pattern"],
+    "files": ["labels", "filetree", "pattern", "pattern_tables"],
     "engine": ["keys", "node", "node_table", "round", "round_nodes", "board", "pool"],
     "loader": ["shelf", "sefgulaw_loader"],
 }

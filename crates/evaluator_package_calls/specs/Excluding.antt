@@ -5,10 +5,16 @@ use Rattle.values_semantics.specs.Comparing.{same_text}
 use Rattle.labels.specs.Paths.{segments}
 use Rattle.pattern.specs.Globs.{some_matches}
 use Rattle.evaluator_package_calls.specs.declared.excludes.Excludes.{Excludes}
+use Rattle.evaluator_package_calls.specs.declared.excludes.UnsortedExcludes.{UnsortedExcludes}
 
 -- a path is in the set, or one of the others matches it
 abbrev pub is_excluded : Excludes → List ℕ → Bool
-is_excluded sorted path = contains same_text sorted.plain path || some_matches (map segments sorted.starred.items) path
+is_excluded sorted path = contains same_text sorted.plain path || (some_matches (map segments sorted.tried.items) path || some_matches (map segments sorted.found) path)
+
+abbrev pub is_excluded_unsorted : UnsortedExcludes → List ℕ → Bool
+is_excluded_unsorted unsorted path =
+    contains same_text unsorted.plain path
+    || (some_matches (map segments unsorted.tried.items) path || some_matches (map segments (map (λ s. s.pattern) unsorted.starred.items)) path)
 
 -- the patterns match just these paths
 abbrev pub SortsPatterns : List (List ℕ) → Excludes → Type 0

@@ -1,4 +1,4 @@
-//! The program: commands on standard input, replies on standard output. Layer: product, on base.
+//! The program: commands on standard input, replies on standard output.
 #![tactic(auto)]
 
 use loader::run_program;

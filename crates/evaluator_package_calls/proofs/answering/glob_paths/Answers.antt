@@ -1,0 +1,13 @@
+use Rattle.std.proofs.Common.{◌≡◌, ◌∙◌, List, ℕ, IfOk, subst, map}
+use Rattle.labels.specs.Paths.{segments}
+use Rattle.pattern.specs.Globs.{some_matches}
+use Rattle.evaluator_semantics.specs.Sorting.{in_order}
+use Rattle.evaluator_package_calls.specs.Excluding.{is_excluded}
+use Rattle.evaluator_package_calls.specs.GlobResults.{found_all}
+use Rattle.evaluator_package_calls.proofs.Excluding.{kept_alike}
+use Rattle.evaluator_package_calls.proofs.answering.glob_paths.Goals as goal
+
+pub returns : goal.returns
+returns c =
+    let kept = kept_alike (is_excluded c.in_ok-sorted.sorted) (some_matches (map segments c.args.excludes.now)) c.in_ok-sorted.ensures (found_all c.args.answers.now c.args.questions.now) in
+    subst (λ (xs : List (List ℕ)). IfOk c.in_order.result (λ v. v.items ≡ in_order (λ path. path) xs)) (c.as_slice.ensures.value ∙ c.in_ok-all.ensures ∙ kept) c.in_order.ensures
