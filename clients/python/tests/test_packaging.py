@@ -228,7 +228,7 @@ def root(packages: list[Path], tmp_path_factory: pytest.TempPathFactory) -> Iter
     for package in packages:
         (shared / package.name).write_bytes(package.read_bytes())
     small_tree(shared / "tree")
-    yield FreshRoot(place / "root", shared, ["python3", "man-db"])
+    yield FreshRoot(place / "root", shared, ["python3", "python3-lark", "man-db"])
 
 
 @pytest.mark.long
