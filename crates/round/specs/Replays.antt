@@ -65,6 +65,10 @@ module _ (next : Key → List Value → Reply Key Value) (read : Key → Option 
   abbrev pub LacksRoot : Past read → List Choice → Type 0
   LacksRoot past made = (k : Key) × In k past.roots × (Settled next cycle read (record_at past.entry) past.roots (newest made) k → ⊥)
 
+  -- the choices lead to no stall
+  abbrev pub LeadsToNoStall : Past read → List Choice → Type 0
+  LeadsToNoStall past made = IsStall next cycle read (record_at past.entry) past.roots (newest made) → ⊥
+
   -- This many choices were read. Each was possible after those before it, and the runs have the turns that they handed
   -- out. After them, as nowhere earlier, no turn can be handed out or taken back: the roots are settled, or what is
   -- open leads into cycles.
@@ -77,13 +81,13 @@ module _ (next : Key → List Value → Reply Key Value) (read : Key → Option 
     pub not_sooner : (n : ℕ) → n < number → LacksRoot past (take n made)
 
   -- the law of a call is true, and choices were read up to a stall; or all were possible, and a root is not settled; or
-  -- the one at the place was not possible after those before it, and a root is not settled. After the latter two the
-  -- graph is as after a stop.
+  -- the one at the place was not possible after those before it, and a root is not settled. After the latter two there
+  -- is no stall, and the graph is as after a stop.
   abbrev pub Replays : List Key → GraphView → GraphView → List Choice → Replayed → Type 0
   Replays roots old new made (replayed.Done runs) = (past : Past read) → IsHistory next read past roots old → IsCall next read past new runs.items × HasRead past made runs.items
-  Replays roots old new made replayed.ChoicesEnded = (past : Past read) → IsHistory next read past roots old → IsAfter next read past new × HasOpenRoot roots new × AreLegal past made
+  Replays roots old new made replayed.ChoicesEnded = (past : Past read) → IsHistory next read past roots old → IsAfter next read past new × HasOpenRoot roots new × AreLegal past made × LeadsToNoStall past made
   Replays roots old new made (replayed.NotLegal n) = (past : Past read) → IsHistory next read past roots old → IsAfter next read past new × HasOpenRoot roots new × AreLegal past (take n made)
-      × (c : Choice) × IsAt made n c × (IsPossibleAfter next read past (newest (take n made)) (choice_view c) → ⊥)
+      × LeadsToNoStall past (take n made) × (c : Choice) × IsAt made n c × (IsPossibleAfter next read past (newest (take n made)) (choice_view c) → ⊥)
 
   -- the choices before the place were possible and handed out the budget's turns, and the one there could hand out a
   -- further one

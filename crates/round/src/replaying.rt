@@ -68,10 +68,11 @@ fn play_choice<R: Rules>(
 /// as all roots are settled the result is `Done`, and choices that are left over are not read.
 ///
 /// Returns `NotLegal` for the first choice that was not possible after those before it. Returns `ChoicesEnded` if all
-/// were possible and a root is still open. Returns `Stop::Budget` if the budget's turns were made and a further one
-/// could be handed out at the next choice, and no value then. Returns `Stop::Memory` if an allocation fails, in a turn
-/// too. After each of these the graph is consistent for the same history, no record is lost, and only nodes that were
-/// settled have new ones. The tree must be the last of the history for which the graph is consistent.
+/// were possible and a root is still open. Neither is returned at a stall. Returns `Stop::Budget` if the budget's turns
+/// were made and a further one could be handed out at the next choice, and no value then. Returns `Stop::Memory` if an
+/// allocation fails, in a turn too. After each of these the graph is consistent for the same history, no record is
+/// lost, and only nodes that were settled have new ones. The tree must be the last of the history for which the graph
+/// is consistent.
 pub fn replay<R: Rules>(
     alloc: Global,
     graph: &mut Graph,

@@ -15,9 +15,9 @@ use Rattle.round.proofs.Confirming.{take_whole}
 use Rattle.round_nodes.proofs.Grouping.{split_at, taken_next}
 use Rattle.round.proofs.Budgets.{at_got, ended_in_time, stalled_in_time, stopped_in_time}
 use Rattle.round.proofs.Resting.{root_open}
-use Rattle.round.proofs.Following.{stalled_is, lacks_root}
+use Rattle.round.proofs.Following.{stalled_is, is_stalled, lacks_root}
 use Rattle.round.specs.Playing.{HasCome, HasHanded}
-use Rattle.round.specs.Replays.{AreLegal, LacksRoot, newest, hands, hand_of}
+use Rattle.round.specs.Replays.{AreLegal, LacksRoot, LeadsToNoStall, newest, hands, hand_of}
 use Rattle.round.specs.declared.choice.Choice.{Choice}
 use Rattle.round.proofs.PlayedChoices.{newest_snoc, hands_snoc, none_out, one_open, none_left, one_spent, err_of, no_turns, all_back, none_handed, counted_on, counted_still, below_next, within_left}
 use Rattle.round.proofs.replaying.replay.Goals as goal
@@ -129,6 +129,7 @@ returns-in-Ok-false-clause-replays g c = λ past h.
       p.1.truth.after,
       (r.0, subst (In r.0) h.of_roots r.1, subst (λ (x : GraphView). IsUnsettled (record_at x) r.0) (sym p.2) r.2),
       w.1,
+      (λ x. true_false (c.stalled.ensures.1 (is_stalled g.R.Rules.next (leaves.read c.args.tree.now) laws past _ c.loop-n.graph (round_view c.loop-n.play.round) c.loop-n.invariant.playing.0.0 w.0.roots w.0.truth w.0.follows.out x)) c.if-stalled.false),
       c.index-choices-n.result,
       split_at c.args.choices.now c.loop-n.n c.index-choices-n.result c.index-choices-n.is c.loop-n-test.true,
       p.0,
@@ -214,6 +215,8 @@ returns-clause-replays g c = λ past h.
       w.0.truth.after,
       (r.0, subst (In r.0) h.of_roots r.1, r.2),
       subst (λ (made : List Choice). AreLegal g.R.Rules.next (leaves.read c.args.tree.now) past made) whole w.1,
+      subst (λ (made : List Choice). LeadsToNoStall g.R.Rules.next (leaves.read c.args.tree.now) past made) whole
+          (λ x. true_false (c.stalled-2.ensures.1 (is_stalled g.R.Rules.next (leaves.read c.args.tree.now) laws past _ c.loop-n.graph (round_view c.loop-n.play.round) c.loop-n.invariant.playing.0.0 w.0.roots w.0.truth w.0.follows.out x)) c.if-stalled-2.false),
     )
 
 pub returns-clause-turns : goal.returns-clause-turns
