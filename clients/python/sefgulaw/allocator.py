@@ -1,8 +1,8 @@
 """The memory allocator of the loader: that of the C library, or a library that replaces it.
 
-The threads of the C library's allocator share locks, for which several workers of a loader wait.
-The loader's program links the C library alone, so another allocator is a shared library that the
-variable LD_PRELOAD puts before it.
+The threads of the C library's allocator share locks, for which several workers of a loader wait,
+and it takes one worker longer to free what it has read. The loader's program links the C library
+alone, so another allocator is a shared library that the variable LD_PRELOAD puts before it.
 """
 
 from __future__ import annotations
@@ -19,8 +19,6 @@ CHOICES: tuple[Choice, ...] = ("auto", "jemalloc", "system")
 
 VARIABLE = "SEFGULAW_ALLOCATOR"
 LIBRARY = "libjemalloc.so.2"
-LEAST_WORKERS = 2
-"""With one worker nobody waits for a lock."""
 
 _PRELOAD, _SEARCHED = "LD_PRELOAD", "LD_LIBRARY_PATH"
 _SEPARATORS = re.compile("[ :]")
@@ -33,28 +31,22 @@ class NoAllocator(Exception):
 
 @dataclass(frozen=True)
 class Allocator:
-    """The library that loaders of so many workers or more are started with; None is none."""
+    """The library that loaders are started with; None is none."""
 
     library: str | None = None
-    least_workers: int = 1
 
-    def library_for(self, workers: int) -> str | None:
-        """Returns the library that a loader of so many workers is started with, if with one."""
-        return self.library if workers >= self.least_workers else None
-
-    def environment(self, workers: int) -> dict[str, str] | None:
+    def environment(self) -> dict[str, str] | None:
         """Returns the variables that a loader is started with; None are those of this process.
 
         What the user has put before the C library stays there, and before the allocator.
         """
-        library = self.library_for(workers)
         names = os.environ.get(_PRELOAD, "")
-        if library is None or library in _SEPARATORS.split(names):
+        if self.library is None or self.library in _SEPARATORS.split(names):
             return None
-        return {**os.environ, _PRELOAD: f"{names}:{library}" if names else library}
+        return {**os.environ, _PRELOAD: f"{names}:{self.library}" if names else self.library}
 
 
-def find_allocator(given: str | None, setting: Choice, workers: int, program: str) -> Allocator:
+def find_allocator(given: str | None, setting: Choice, program: str) -> Allocator:
     """Returns the allocator for a loader: the one given, by the variable, or by the settings.
 
     Raises `NoAllocator` where a library is asked for and cannot be used with this program.
@@ -63,8 +55,7 @@ def find_allocator(given: str | None, setting: Choice, workers: int, program: st
     if choice == "system":
         return Allocator()
     if choice == "auto":
-        is_wanted = workers >= LEAST_WORKERS and not _has_own()
-        return Allocator(_search(LIBRARY, program) if is_wanted else None, LEAST_WORKERS)
+        return Allocator(None if _has_own() else _search(LIBRARY, program))
     if "/" in choice:
         return Allocator(_checked(choice, program))
     found = _search(LIBRARY if choice == "jemalloc" else choice, program)

@@ -196,7 +196,7 @@ class Loader:
                 stderr=pipe,
                 bufsize=0,
                 start_new_session=True,
-                env=allocator.environment(workers),
+                env=allocator.environment(),
             )
         except (OSError, ValueError) as error:
             reason = error.strerror if isinstance(error, OSError) and error.strerror else str(error)

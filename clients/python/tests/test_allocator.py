@@ -60,23 +60,22 @@ def library(folder: Path, name: str = LIBRARY) -> str:
     return str(folder / name)
 
 
-def auto(workers: int = 4, program: str = sys.executable) -> str | None:
+def auto(program: str = sys.executable) -> str | None:
     """Returns the library that a loader gets where nobody asks for one."""
-    return find_allocator(None, "auto", workers, program).library_for(workers)
+    return find_allocator(None, "auto", program).library
 
 
 # Where it is looked for.
 
 
-def test_it_is_found_where_several_workers_are_asked_for(
+def test_it_is_used_where_nobody_asks_for_one(
     tmp_path: Path, monkeypatch: pytest.MonkeyPatch
 ) -> None:
     file = library(tmp_path)
     monkeypatch.setenv("LD_LIBRARY_PATH", str(tmp_path))
-    assert [auto(workers) for workers in (1, 2, 16)] == [None, file, file]
-    found = find_allocator(None, "auto", 4, sys.executable)
-    assert found.environment(4) == {**os.environ, "LD_PRELOAD": file}
-    assert found.environment(1) is None
+    assert auto() == file
+    found = find_allocator(None, "auto", sys.executable)
+    assert found.environment() == {**os.environ, "LD_PRELOAD": file}
 
 
 @pytest.mark.usefixtures("none_usual")
@@ -87,8 +86,8 @@ def test_where_it_is_not_found_nothing_changes(
     library(tmp_path / "tree")
     monkeypatch.chdir(tmp_path / "tree")
     monkeypatch.setenv("LD_LIBRARY_PATH", f"{tmp_path}::/nonexistent")
-    found = find_allocator(None, "auto", 4, sys.executable)
-    assert found.library is None and found.environment(4) is None
+    found = find_allocator(None, "auto", sys.executable)
+    assert found.library is None and found.environment() is None
 
 
 def test_the_usual_places(tmp_path: Path, monkeypatch: pytest.MonkeyPatch) -> None:
@@ -130,16 +129,16 @@ def test_what_the_user_puts_before_the_c_library_stays(
     file = library(tmp_path)
     monkeypatch.setenv("LD_LIBRARY_PATH", str(tmp_path))
     monkeypatch.setenv("LD_PRELOAD", "/a.so libb.so")
-    found = find_allocator(None, "auto", 4, sys.executable).environment(4)
+    found = find_allocator(None, "auto", sys.executable).environment()
     assert found == {**os.environ, "LD_PRELOAD": f"/a.so libb.so:{file}"}
     for own in ("/a.so:/x/libtcmalloc.so.4", LIBRARY, file, "libmimalloc.so.2 /a.so"):
         monkeypatch.setenv("LD_PRELOAD", own)
-        assert find_allocator(None, "auto", 4, sys.executable).environment(4) is None
+        assert find_allocator(None, "auto", sys.executable).environment() is None
     monkeypatch.setenv("LD_PRELOAD", "libmimalloc.so.2")
-    found = find_allocator("jemalloc", "auto", 1, sys.executable).environment(1)
+    found = find_allocator("jemalloc", "auto", sys.executable).environment()
     assert found == {**os.environ, "LD_PRELOAD": f"libmimalloc.so.2:{file}"}
     monkeypatch.setenv("LD_PRELOAD", f"/a.so:{file}")
-    assert find_allocator("jemalloc", "auto", 1, sys.executable).environment(1) is None
+    assert find_allocator("jemalloc", "auto", sys.executable).environment() is None
 
 
 def test_a_word_goes_before_the_variable_and_that_before_the_settings(
@@ -149,13 +148,13 @@ def test_a_word_goes_before_the_variable_and_that_before_the_settings(
     monkeypatch.setenv("LD_LIBRARY_PATH", str(tmp_path))
 
     def found(given: str | None, setting: Choice) -> str | None:
-        return find_allocator(given, setting, 1, sys.executable).library_for(1)
+        return find_allocator(given, setting, sys.executable).library
 
     assert (found(None, "jemalloc"), found(None, "system")) == (jemalloc, None)
     monkeypatch.setenv(allocator.VARIABLE, "libother.so.1")
     assert (found(None, "jemalloc"), found("", "jemalloc")) == (other, other)
     assert (found("jemalloc", "system"), found("system", "jemalloc")) == (jemalloc, None)
-    assert (found("auto", "jemalloc"), found(other, "system")) == (None, other)
+    assert (found("auto", "system"), found(other, "system")) == (jemalloc, other)
     monkeypatch.chdir(tmp_path)
     assert found("./libother.so.1", "system") == other
     monkeypatch.setenv(allocator.VARIABLE, "")
@@ -175,7 +174,7 @@ def test_a_library_that_is_asked_for_and_missing(tmp_path: Path) -> None:
         library(tmp_path / "a b"): "LD_PRELOAD takes no path with a space or a colon",
     }.items():
         with pytest.raises(NoAllocator) as error:
-            find_allocator(name, "auto", 4, sys.executable)
+            find_allocator(name, "auto", sys.executable)
         assert str(error.value).endswith(why)
 
 
@@ -198,10 +197,10 @@ def mapped(loader: Loader) -> str:
 def test_the_loader_runs_with_it(tmp_path: Path) -> None:
     file = library(tmp_path)
     words = [sys.executable, "-I", "-c", "import sys\nfor _ in sys.stdin: print(1, flush=True)"]
-    for workers, is_there in ((1, False), (2, True)):
-        loader = Loader.start(words, workers, allocator=Allocator(file, 2))
+    for chosen in (Allocator(), Allocator(file)):
+        loader = Loader.start(words, allocator=chosen)
         assert loader.ask_line(b"x\n") == b"1"
-        assert (file in mapped(loader)) is is_there
+        assert (file in mapped(loader)) is (chosen.library == file)
         assert loader.close() == 0
 
 
@@ -215,7 +214,7 @@ def test_a_line_of_the_system_is_no_word_of_the_loader(monkeypatch: pytest.Monke
 
 
 def test_the_built_loader_runs_with_jemalloc(loader: str) -> None:
-    found = find_allocator("jemalloc", "auto", 2, loader)
+    found = find_allocator("jemalloc", "auto", loader)
     started = Loader.start([loader], 2, allocator=found)
     assert started.ask_line(b'{"op":"put","path":"a/BUILD","text":""}\n') == b'{"ok":1}'
     answer = started.ask_line(b'{"op":"load","names":["a"]}\n')
@@ -258,7 +257,7 @@ def test_the_words_of_the_command(root: Root, run: Runner, told: Path, tmp_path:
     file, other = library(tmp_path / "lib"), library(tmp_path, "other.so")
     run.variables["LD_LIBRARY_PATH"] = str(tmp_path / "lib")
     for words, line in (
-        (["--no-daemon"], "1 None"),
+        (["--no-daemon"], f"1 {file}"),
         (["--workers", "2"], f"2 {file}"),
         (["--workers", "2", "--allocator", "system"], "2 None"),
         (["--allocator", "jemalloc"], f"1 {file}"),
@@ -298,6 +297,7 @@ def test_the_daemon_tells_its_allocator(
     assert ", allocator other.so, " in run("daemon", "status", cwd=root).lines[0]
     assert lines_of(told) == [f"1 {other}"]
     assert run("daemon", "stop", cwd=root).status == 0
+    run.variables["SEFGULAW_ALLOCATOR"] = "system"
     assert run("targets", cwd=root).status == 0
     assert "allocator" not in run("daemon", "status", cwd=root).lines[0]
     assert lines_of(told) == ["1 None"]

@@ -45,7 +45,7 @@ def options_of(
         raise Failure(NO_ANSWER, no_loader(loader))
     number = workers or settings.workers
     try:
-        chosen = find_allocator(allocator, settings.allocator, number, program)
+        chosen = find_allocator(allocator, settings.allocator, program)
     except NoAllocator as error:
         raise Failure(NO_ANSWER, str(error)) from None
     return Options(

@@ -220,7 +220,7 @@ class Keeper:
         """Returns what `status` shows of the tree. Any thread may ask, also during a long load."""
         events = self.events
         recorded: dict[str, object] = {
-            "allocator": self.options.allocator.library_for(self.options.workers),
+            "allocator": self.options.allocator.library,
             "events": None if events is None else events.path,
             "events_fault": "" if events is None else events.fault,
             "events_size": 0 if events is None else events.size(),
