@@ -39,6 +39,12 @@ def of_build(text: str) -> list[Command]:
     return [put("s/BUILD", text), load("s")]
 
 
+def labelled(count: int) -> str:
+    """A build file of so many targets that share a list of 65,536 labels."""
+    made = 'filegroup(name = "t" + str(i), srcs = L)'
+    return f'L = [":a"] * 65536\nx = [{made} for i in range({count})]\n'
+
+
 def calling(lines: str) -> list[Command]:
     """A package that calls a function of a module, with these lines as its body."""
     return [put("s/m.bzl", "def f():\n" + lines), *of_build('load(":m.bzl", "f")\nf()\n')]
@@ -120,6 +126,14 @@ COSTS: dict[str, tuple[Callable[[], list[Command]], str]] = {
     "65,536 targets": (
         lambda: of_build('x = [filegroup(name = "t" + str(i)) for i in range(65536)]\n'),
         "1 packages, 65536 targets, 0 faults",
+    ),
+    "20 targets with 65,536 labels each": (
+        lambda: of_build(labelled(20)),
+        "1 packages, 20 targets, 0 faults",
+    ),
+    "65,536 targets with 65,536 labels each": (
+        lambda: of_build(labelled(65_536)),
+        "status 3, stop: memory",
     ),
     "15,000 calls among 14,000 functions": (many_functions, one("s")),
     "patterns with many ** in a deep tree": (

@@ -1,9 +1,10 @@
-"""Lines, texts and paths at their limits and one byte above, and the memory of a program that is
-told many edits."""
+"""Lines, texts and paths at their limits and one byte above, the memory of a program that is told
+many edits, and that of a package whose targets hold more than it may."""
 
 from functools import partial
 
-from harness.commands import line_of, load, put
+from checks.costs import labelled, of_build
+from harness.commands import line_of, lines_of_commands, load, put
 from harness.context import Context
 from harness.report import Report, compare_all
 
@@ -13,6 +14,8 @@ FIND = b'{"op":"find","name":"x"}'
 MODULES = 60
 FEW, MANY = 2_000, 20_000
 MAX_GROWTH = 1.2
+# The most megabytes of a program whose evaluation is charged for 256 MiB.
+MAX_HELD = 500
 
 
 def put_line(path: bytes, length: int) -> bytes:
@@ -66,11 +69,20 @@ def most_memory(context: Context, edits: int, report: Report, *words: str) -> in
     return most
 
 
+def hold_labels(context: Context, report: Report) -> None:
+    """Has a package make more targets with labels than it is charged for up to the limit."""
+    ran, _, most = context.loader("run").run_measured(lines_of_commands(of_build(labelled(65_536))))
+    ends = f"targets with 65,536 labels each: status {ran.status}, said {ran.said!r}, {most:.0f} MB"
+    report.require(ran.ended() == (3, b"stop: memory\n") and most <= MAX_HELD, ends)
+    report.note(ends)
+
+
 def run(context: Context) -> Report:
-    """Compares the rows, and the memory after few edits and after many."""
+    """Compares the rows, the memory after few edits and after many, and that of many labels."""
     report = compare_all([partial(row_differs, context, *row) for row in ROWS])
     few, many = (most_memory(context, edits, report) for edits in (FEW, MANY))
     sizes = f"memory after {FEW} edits of a package {few} KB, after {MANY} {many} KB"
     report.require(many <= MAX_GROWTH * few, f"{sizes}, which is too much")
     report.note(sizes)
+    hold_labels(context, report)
     return report

@@ -2,6 +2,7 @@ pub mod AnswerTables
 pub mod ArgumentsByName
 pub mod AsciiTexts
 pub mod Asking
+pub mod Copies
 pub mod Excluding
 pub mod FieldNames
 pub mod Gathering

@@ -1,6 +1,6 @@
 -- The target of a rule's call, by its arguments at their places: types first, and then each attribute read for itself.
 use Rattle.std.proofs.Common.{◌≡◌, ◌==◌, ◌&&◌, ℕ, Bool, true, false, cond, not, List, [], ◌∷◌, length, Some, None, Option, is_some, refl, ap, sym, ◌∙◌}
-use Rattle.std.specs.Prelude.{Err, slice_get, codes, if◌then◌else◌}
+use Rattle.std.specs.Prelude.{Err, codes}
 use lib.Pointwise.{bytes_decides}
 use Rattle.labels.specs.Paths.{is_path}
 use Rattle.values_heap.specs.declared.halt.Halt.{Halt}
@@ -15,11 +15,11 @@ use Rattle.values_semantics.specs.Heap.{Obj, text, list, tuple, dict, function, 
 use Rattle.values_semantics.specs.Comparing.{same_text}
 use Rattle.values_semantics.specs.Functions.{KeywordArguments, is_named, is_twice}
 use Rattle.values_semantics.specs.Methods.{bytes_of}
-use Rattle.values_modules.specs.Values.{Attribute, single, several, Target}
+use Rattle.values_modules.specs.Values.{Attribute, several, Target}
 use Rattle.evaluator_semantics.specs.Arguments.{value_named}
 use Rattle.evaluator_semantics.specs.Globs.{all_texts, object_texts, texts_in}
-use Rattle.evaluator_semantics.specs.Rules.{Shape, Shapes, one_text, one_label, texts, labels, paths, RuleArgument, typed, typed_if, all_typed, label_in, labels_in, as_shape, all_shaped, are_attributes, are_arguments, not_none, name_text, makes_target, target_of, shapes_of}
-use Rattle.evaluator_package_calls.specs.Fields.{field_name, field_shape, place_of, shape_of, shapes}
+use Rattle.evaluator_semantics.specs.Rules.{Shape, one_text, one_label, texts, labels, paths, RuleArgument, typed, typed_if, all_typed, label_in, labels_in, as_shape, all_shaped, are_attributes, are_arguments, not_none, name_text, makes_target, target_of, shapes_of}
+use Rattle.evaluator_package_calls.specs.Fields.{field_name, field_shape, shape_of, shapes}
 use Rattle.evaluator_package_calls.specs.Lists.{tested}
 use Rattle.evaluator_package_calls.specs.RuleArguments.{HasValues, given, value_at, typed_fields, labels_each, object_labels, labels_at, read_as, read_if, read_fields, described, target_read}
 use Rattle.evaluator_package_calls.specs.View.{ChecksAs}

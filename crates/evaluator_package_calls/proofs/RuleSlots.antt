@@ -1,10 +1,9 @@
 -- The arguments of a rule, one more at its place.
-use Rattle.std.proofs.Common.{◌≡◌, ◌+◌, ◌-◌, ◌<◌, ◌≤◌, ℕ, zero, suc, Bool, true, false, cond, List, [], ◌∷◌, length, drop, get_or, set, Some, None, Option, is_some, refl, ap, sym, subst, ◌∙◌, ◌==◌, inl, inr, arith}
-use Rattle.std.specs.Prelude.{◌⊎◌, not, ◌&&◌, slice_get, min, zip, if◌then◌else◌}
+use Rattle.std.proofs.Common.{◌≡◌, ◌+◌, ◌-◌, ◌<◌, ◌≤◌, ℕ, zero, suc, Bool, true, false, cond, List, [], ◌∷◌, length, drop, get_or, set, Some, None, Option, is_some, refl, ap, sym, subst, ◌∙◌, inl, inr, arith}
+use Rattle.std.specs.Prelude.{◌⊎◌, not, ◌&&◌, slice_get, min, zip}
 use Rattle.std.proofs.lemmas.List.{drop_all}
 use Rattle.std.proofs.lemmas.Option.{get_or_from_slice_get}
 use Rattle.std.proofs.lemmas.Bool.{eqb-true, eqb-false}
-use lib.Pointwise.{bytes_decides}
 use Rattle.values_semantics.specs.declared.val.Val.{Val}
 use Rattle.values_semantics.specs.declared.val.Val.TheVariants as v
 use Rattle.values_semantics.specs.Comparing.{same_text}
@@ -13,11 +12,9 @@ use Rattle.evaluator_semantics.specs.Names.{has_name}
 use Rattle.evaluator_semantics.specs.Arguments.{value_named}
 use Rattle.evaluator_semantics.specs.Rules.{Shapes, are_attributes, not_none}
 use Rattle.evaluator_package_calls.specs.Fields.{field_name, field_named, place_of, shapes, known_names}
-use Rattle.evaluator_package_calls.specs.RuleArguments.{HasValues, Takes, is_taken}
+use Rattle.evaluator_package_calls.specs.RuleArguments.{HasValues, is_taken}
 use Rattle.evaluator_package_calls.specs.declared.fields.Field.{Field}
-use Rattle.evaluator_package_calls.specs.declared.slots.Placement.{Placement}
-use Rattle.evaluator_package_calls.specs.declared.slots.Placement.TheVariants as t
-use Rattle.evaluator_package_calls.proofs.FieldNames.{named_is, absent, unknown, same_place}
+use Rattle.evaluator_package_calls.proofs.FieldNames.{unknown, same_place}
 use Rattle.values_builtins.proofs.Rows.{drop_item}
 
 -- ---- a list with another item at a place

@@ -1,5 +1,5 @@
 pub mod AnswerTables
-pub mod Excluding
+pub mod Charges
 pub mod Fields
 pub mod Lists
 pub mod RuleArguments

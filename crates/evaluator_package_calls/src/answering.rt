@@ -8,14 +8,14 @@ ghost use Rattle.evaluator_semantics.specs.Globs as globs;
 ghost use Rattle.evaluator_semantics.specs.Globs.{answer_to, found_or_none, makes_paths};
 ghost use Rattle.values_heap.specs.View.{store_of, Says, SaysItems};
 ghost use Rattle.evaluator_package_calls.specs.GlobResults.{kept_of, kept_unless, found_all, with_unanswered};
-ghost use Rattle.evaluator_package_calls.specs.Excluding.{is_excluded};
+ghost use Rattle.pattern_tables.specs.Excluding.{is_excluded};
 ghost use Rattle.evaluator_package_calls.specs.AnswerTables.{HasTexts};
 
 use crate::answers::Answers;
-use crate::excludes::Excludes;
 use crate::ordering::in_order;
 use base_types::{Memory, Text};
 use pattern::Pattern;
+use pattern_tables::Excludes;
 use std::alloc::Global;
 use std::collections::HashSet;
 use values_heap::{Bytes, Halt, Heap, MAX_LENGTH, Object, Val};

@@ -1,5 +1,6 @@
 //! The package calls: `package_name`, `glob`, and the rules filegroup, genrule, alias and test_suite.
-ghost use Rattle.std.specs.Prelude.{◌≡◌, IfOk, ◌≤◌, zip};
+ghost use Rattle.std.specs.Prelude.{◌≡◌, IfOk, OnOk, ◌≤◌, ◌+◌, ◌/◌, length, zip};
+ghost use Rattle.std.specs.List.{sum_by};
 ghost use Rattle.values_semantics.specs.Builtins.{builtin_name};
 ghost use Rattle.evaluator_semantics.specs.World.{Here, World};
 ghost use Rattle.evaluator_semantics.specs.Arguments.{plain_part, named_part};
@@ -10,6 +11,7 @@ ghost use Rattle.evaluator_semantics.specs.Packages.{package_call};
 ghost use Rattle.values_heap.specs.View.{store_of, Says};
 ghost use Rattle.evaluator_state.specs.View as view;
 ghost use Rattle.evaluator_state.specs.View.{world_of, Ran};
+ghost use Rattle.evaluator_package_calls.specs.Charges.{argument_bytes};
 ghost use Rattle.evaluator_package_calls.specs.RuleArguments.{value_at, described, target_read};
 ghost use Rattle.evaluator_package_calls.specs.View.{ChecksAs, IsOf, EndsAs, IfWaits};
 ghost use Rattle.evaluator_package_calls.specs.Within.{within, named_package};
@@ -18,6 +20,7 @@ use crate::answering::{glob_paths, make_paths, make_text, queries_without_result
 use crate::answers::Answers;
 use crate::arguments::{named_part, named_values, plain_part};
 use crate::attributes::{all_read, are_typed};
+use crate::charging::charge_arguments;
 use crate::fields::{FIELDS, Field, fields_of};
 use crate::globbing::{questions, read_call};
 use crate::kinds::{CallResult, Package};
@@ -173,7 +176,8 @@ fn glob(
     }
 }
 
-/// Calls a rule, which makes a target and returns None, or returns fault 25, 5, 15 or 20, in this order.
+/// Calls a rule, which makes a target and returns None, or returns fault 25, 5, 15 or 20, in this order. The heap is
+/// charged for copies of the arguments, since the target keeps texts of its own.
 pub fn rule(
     state: &mut State,
     f: Builtin,
@@ -185,8 +189,11 @@ pub fn rule(
     ensures says { (here : Here) → Ran here.site
         (rule f package_name.now xs.now (zip names.now values.now) here (world_of state.old))
         result (world_of state.new) }
-    ensures heap { state.new.heap ≡ state.old.heap }
+    ensures store { store_of state.new.heap ≡ store_of state.old.heap }
+    ensures charged { OnOk result (state.new.heap.held ≡ state.old.heap.held + sum_by
+        (argument_bytes (length package_name.now / 16) (store_of state.old.heap)) values.now) }
 {
+    charge_arguments(&mut state.heap, package_name.as_str().len() / 16, values)?;
     let target = match target_of(&state.heap, f, package_name, xs, names, values) {
         Ok(target) => target,
         Err(halt) => return Err(halt),

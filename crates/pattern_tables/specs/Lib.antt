@@ -1,2 +1,3 @@
+pub mod Excluding
 pub mod Parts
 pub mod PatternTables

@@ -1,6 +1,7 @@
-//! Patterns with a star, of which many are told apart by a part of the path that they match. Begin at `table.rt`.
+//! Many patterns, of which those that match a path are found by the path or by a part of it. Begin at `excludes.rt`.
 #![tactic(auto)]
 
+mod excludes;
 mod table;
 
-pub use table::{PartPattern, PatternTable, note_length, part_of};
+pub use excludes::Excludes;

@@ -1,6 +1,6 @@
 use Rattle.std.proofs.Common.{◌≡◌, ◌++◌, drop}
 use Rattle.evaluator_package_calls.specs.GlobResults.{kept_unless}
-use Rattle.evaluator_package_calls.specs.Excluding.{is_excluded}
+use Rattle.pattern_tables.specs.Excluding.{is_excluded}
 use Rattle.evaluator_package_calls.proofs.answering.add_paths.Given as goal
 
 abbrev pub invariant-loop-path : goal.invariant-loop-path

@@ -2,7 +2,7 @@ use Rattle.std.proofs.Common.{◌≡◌, ◌∙◌, List, ℕ, IfOk, subst, map}
 use Rattle.labels.specs.Paths.{segments}
 use Rattle.pattern.specs.Globs.{some_matches}
 use Rattle.evaluator_semantics.specs.Sorting.{in_order}
-use Rattle.evaluator_package_calls.specs.Excluding.{is_excluded}
+use Rattle.pattern_tables.specs.Excluding.{is_excluded}
 use Rattle.evaluator_package_calls.specs.GlobResults.{found_all}
 use Rattle.evaluator_package_calls.proofs.Excluding.{kept_alike}
 use Rattle.evaluator_package_calls.proofs.answering.glob_paths.Goals as goal

@@ -1,5 +1,5 @@
 use Rattle.std.proofs.Common.{refl}
-use Rattle.evaluator_package_calls.specs.Excluding.{is_excluded}
+use Rattle.pattern_tables.specs.Excluding.{is_excluded}
 use Rattle.evaluator_package_calls.proofs.Gathering.{gathered_step}
 use Rattle.evaluator_package_calls.proofs.answering.matching_paths.Goals as goal
 

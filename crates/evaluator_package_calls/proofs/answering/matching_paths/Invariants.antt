@@ -1,6 +1,6 @@
 use Rattle.std.proofs.Common.{◌≡◌, ◌++◌, drop}
 use Rattle.evaluator_package_calls.specs.GlobResults.{kept_unless, found_all}
-use Rattle.evaluator_package_calls.specs.Excluding.{is_excluded}
+use Rattle.pattern_tables.specs.Excluding.{is_excluded}
 use Rattle.evaluator_package_calls.proofs.answering.matching_paths.Given as goal
 
 abbrev pub invariant-loop-question : goal.invariant-loop-question

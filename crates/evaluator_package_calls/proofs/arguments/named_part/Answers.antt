@@ -1,6 +1,4 @@
-use Rattle.std.proofs.Common.{◌≡◌, ◌++◌, [], drop, length, List, ℕ, refl, sym, ap, ◌∙◌, arith}
-use Rattle.std.specs.Prelude.{zip}
-use Rattle.values_semantics.specs.declared.val.Val.{Val}
+use Rattle.std.proofs.Common.{arith}
 use Rattle.evaluator_package_calls.proofs.ArgumentsByName.{all_named}
 use Rattle.evaluator_package_calls.proofs.arguments.named_part.Goals as goal
 

@@ -1,4 +1,3 @@
-use Rattle.std.proofs.Common.{refl}
 use Rattle.values_heap.specs.View.{store_of}
 use Rattle.evaluator_package_calls.proofs.Steps.{labels_step, labels_halt}
 use Rattle.evaluator_package_calls.proofs.attributes.labels_each.Goals as goal

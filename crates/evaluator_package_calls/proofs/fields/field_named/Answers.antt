@@ -1,6 +1,6 @@
 use Rattle.std.proofs.Common.{sym, ap, ◌∙◌}
 use Rattle.values_semantics.specs.Comparing.{same_text}
-use Rattle.evaluator_package_calls.proofs.FieldNames.{is_named_field, not_named, none_named}
+use Rattle.evaluator_package_calls.proofs.FieldNames.{not_named, none_named}
 use Rattle.evaluator_package_calls.proofs.fields.field_named.Goals as goal
 
 pub returns-else-eq : goal.returns-else-eq

@@ -1,4 +1,4 @@
-use Rattle.std.proofs.Common.{ap, sym, ◌∙◌, ◌==◌, Ok, map, []}
+use Rattle.std.proofs.Common.{ap, sym, ◌∙◌, ◌==◌, Ok, map}
 use Rattle.pattern.specs.Globs.{question}
 use Rattle.evaluator_semantics.specs.Sorting.{in_order}
 use Rattle.evaluator_package_calls.specs.GlobResults.{kept_of, found_all}

@@ -3,9 +3,9 @@ use Rattle.std.specs.Prelude.{◌||◌}
 use Rattle.std.specs.List.{All}
 use Rattle.labels.specs.Paths.{segments}
 use Rattle.pattern.specs.Globs.{some_matches}
-use Rattle.evaluator_package_calls.specs.Excluding.{is_excluded_unsorted}
+use Rattle.pattern_tables.specs.Excluding.{is_excluded_unsorted}
 use Rattle.pattern_tables.specs.PatternTables.{HasPart}
-use Rattle.evaluator_package_calls.proofs.excludes.Excludes.new.Given as goal
+use Rattle.pattern_tables.proofs.excludes.Excludes.new.Given as goal
 
 -- the patterns that were taken in match what those that are left do not
 abbrev pub invariant-loop-pattern : goal.invariant-loop-pattern

@@ -1,19 +1,19 @@
 -- Excluded patterns, of which those without a star are in a set.
-use Rattle.std.specs.Prelude.{◌≡◌, ℕ, List, Bool, ◌||◌, map}
+use Rattle.std.specs.Prelude.{◌≡◌, nat_eq, ℕ, List, Bool, ◌||◌, map}
 use Rattle.std.specs.HashSet.{contains}
-use Rattle.values_semantics.specs.Comparing.{same_text}
+use Rattle.std.specs.Cmp.Lexicographic.{pointwise}
 use Rattle.labels.specs.Paths.{segments}
 use Rattle.pattern.specs.Globs.{some_matches}
-use Rattle.evaluator_package_calls.specs.declared.excludes.Excludes.{Excludes}
-use Rattle.evaluator_package_calls.specs.declared.excludes.UnsortedExcludes.{UnsortedExcludes}
+use Rattle.pattern_tables.specs.declared.excludes.Excludes.{Excludes}
+use Rattle.pattern_tables.specs.declared.excludes.UnsortedExcludes.{UnsortedExcludes}
 
 -- a path is in the set, or one of the others matches it
 abbrev pub is_excluded : Excludes → List ℕ → Bool
-is_excluded sorted path = contains same_text sorted.plain path || (some_matches (map segments sorted.tried.items) path || some_matches (map segments sorted.found) path)
+is_excluded sorted path = contains (pointwise nat_eq) sorted.plain path || (some_matches (map segments sorted.tried.items) path || some_matches (map segments sorted.found) path)
 
 abbrev pub is_excluded_unsorted : UnsortedExcludes → List ℕ → Bool
 is_excluded_unsorted unsorted path =
-    contains same_text unsorted.plain path
+    contains (pointwise nat_eq) unsorted.plain path
     || (some_matches (map segments unsorted.tried.items) path || some_matches (map segments (map (λ s. s.pattern) unsorted.starred.items)) path)
 
 -- the patterns match just these paths

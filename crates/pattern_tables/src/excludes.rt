@@ -1,14 +1,14 @@
-//! The patterns that a call of `glob` excludes.
+//! Patterns of which those without a star are found by the path, as a call of `glob` excludes them.
 ghost use Rattle.std.specs.Prelude.{◌≡◌, ◌||◌, ◌∷◌, [], List, ℕ, map, IfOk, OnOk};
 ghost use Rattle.std.specs.List.{All};
 ghost use Rattle.labels.specs.Paths.{segments};
 ghost use Rattle.pattern.specs.Globs.{some_matches};
-ghost use Rattle.evaluator_package_calls.specs.Excluding.{is_excluded, is_excluded_unsorted, SortsPatterns};
+ghost use Rattle.pattern_tables.specs.Excluding.{is_excluded, is_excluded_unsorted, SortsPatterns};
 ghost use Rattle.pattern_tables.specs.PatternTables.{HasPart};
 
+use crate::table::{PartPattern, PatternTable, note_length, part_of};
 use base_types::{Memory, Text};
 use pattern::{BadPattern, Pattern};
-use pattern_tables::{PartPattern, PatternTable, note_length, part_of};
 use std::alloc::Global;
 use std::collections::HashSet;
 

@@ -1,12 +1,12 @@
 use Rattle.std.proofs.Common.{◌∙◌, ap, map}
-use Rattle.std.specs.Prelude.{◌||◌}
+use Rattle.std.specs.Prelude.{◌||◌, nat_eq}
 use Rattle.std.specs.HashSet.{contains}
-use Rattle.values_semantics.specs.Comparing.{same_text}
+use Rattle.std.specs.Cmp.Lexicographic.{pointwise}
 use Rattle.labels.specs.Paths.{segments}
 use Rattle.pattern.specs.Globs.{some_matches}
-use Rattle.evaluator_package_calls.specs.Excluding.{is_excluded_unsorted}
-use Rattle.evaluator_package_calls.proofs.Excluding.{all_sorted, sorted_step}
-use Rattle.evaluator_package_calls.proofs.excludes.Excludes.new.Goals as goal
+use Rattle.pattern_tables.specs.Excluding.{is_excluded_unsorted}
+use Rattle.pattern_tables.proofs.Excluding.{all_sorted, sorted_step}
+use Rattle.pattern_tables.proofs.excludes.Excludes.new.Goals as goal
 
 pub loop-pattern-preserved : goal.loop-pattern-preserved
 loop-pattern-preserved c = record {
@@ -19,5 +19,5 @@ loop-pattern-preserved c = record {
 pub returns : goal.returns
 returns c = λ path.
     let g = c.loop-pattern.unsorted in
-    ap (λ t. contains same_text g.plain path || (some_matches (map segments g.tried.items) path || t)) (c.in_ok-found.ensures path)
+    ap (λ t. contains (pointwise nat_eq) g.plain path || (some_matches (map segments g.tried.items) path || t)) (c.in_ok-found.ensures path)
     ∙ all_sorted c.args.patterns.now c.loop-pattern.pattern-index path (is_excluded_unsorted g path) c.loop-pattern-test.false (c.loop-pattern.invariant.unsorted path)

@@ -1,7 +1,7 @@
 use Rattle.std.proofs.Common.{◌≡◌, drop, map}
 use Rattle.labels.specs.Paths.{segments}
 use Rattle.pattern.specs.Globs.{some_matches}
-use Rattle.evaluator_package_calls.proofs.excludes.some_matches.Given as goal
+use Rattle.pattern_tables.proofs.excludes.some_matches.Given as goal
 
 abbrev pub invariant-loop-pattern : goal.invariant-loop-pattern
 invariant-loop-pattern l = some_matches (map segments (drop l.pattern-index l.patterns)) l.path ≡ some_matches (map segments l.patterns) l.path
