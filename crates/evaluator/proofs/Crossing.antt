@@ -50,6 +50,7 @@ use Rattle.evaluator.proofs.Blocks.{block_send, state_field_send}
 use Rattle.evaluator.proofs.Trees.{trees_cross}
 use Rattle.evaluator.specs.contracts.machine.Environment
 use Rattle.evaluator.specs.contracts.machine.Machine
+use Rattle.evaluator.specs.contracts.outcome.Parts
 use Rattle.evaluator.specs.contracts.outcome.Suspended
 use Rattle.evaluator.specs.contracts.setting.Tables
 
@@ -167,5 +168,8 @@ reached_send = search (module_send, LabelsSends.the_send, crosses, sendable) dep
 tables_field_send : IsSend (Tables.the_field).row
 tables_field_send = search (functions_send, reached_send, crosses, sendable) depth 60 fits 20000
 
+parts_field_send : IsSend (Parts.the_field).row
+parts_field_send = search (environment_field_send, tables_field_send, machine_field_send, control_field_send, crosses, sendable) depth 60 fits 20000
+
 pub suspended_send : IsSend Suspended.the_row
-suspended_send = search (environment_field_send, tables_field_send, machine_field_send, control_field_send, TextSends.the_send, crosses, sendable) depth 60 fits 20000
+suspended_send = search (parts_field_send, crosses, sendable) depth 60 fits 20000

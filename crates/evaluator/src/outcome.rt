@@ -1,5 +1,6 @@
 //! What the evaluation of a file ends with.
 ghost use Rattle.std.specs.Prelude.{◌≡◌};
+ghost use Rattle.evaluator.specs.Files.{Stands, HasTables};
 
 use crate::machine::{Environment, Machine};
 use crate::setting::Tables;
@@ -33,15 +34,29 @@ pub enum Outcome {
 
 /// An evaluation that waits for the answers of a call of `glob`. It may be given up at any time. A contract sees what the
 /// file is given and the patterns; the evaluation stands where that of this file waits.
-#[derive(Drop)]
 pub struct Suspended {
     // Boxed, so that an outcome is moved as a few words.
-    pub(crate) environment: Box<Environment>,
-    // What is made once for the file.
-    pub(crate) tables: Box<Tables>,
-    pub(crate) machine: Box<Machine>,
-    pub(crate) control: Box<Control>,
+    pub(crate) parts: Box<Parts>,
     pub(crate) patterns: Vec<Text>,
+}
+
+/// What an evaluation that waits goes on from.
+#[derive(Drop)]
+pub(crate) struct Parts {
+    pub(crate) environment: Environment,
+    // What is made once for the file.
+    pub(crate) tables: Tables,
+    pub(crate) machine: Machine,
+    pub(crate) control: Control,
+}
+
+impl Drop for Suspended {
+    fn drop(self) {
+        let Suspended {
+            parts: _,
+            patterns: _,
+        } = self;
+    }
 }
 
 impl Model for Suspended {
@@ -55,9 +70,9 @@ impl Model for Suspended {
 
     ghost coded = { code_by (Environment × List (List ℕ)) (coded× e.the_row.coded (coded_list (coded_list coded_ℕ))) (λ w. (w.environment, w.patterns)) (λ p. record { environment = p.0; patterns = p.1 }) (λ _. refl) };
 
-    ghost view = { λ s. record { environment = s.environment.value; patterns = s.patterns.items } };
+    ghost view = { λ s. record { environment = s.parts.value.environment; patterns = s.patterns.items } };
 
-    ghost invariant = { λ s. Waits s.environment.value s.machine.value s.control.value s.patterns.items × HasTables s.environment.value s.tables.value };
+    ghost invariant = { λ s. let p = s.parts.value in Waits p.environment p.machine p.control s.patterns.items × HasTables p.environment p.tables };
 }
 
 // How many bytes of values an evaluation may have that is kept while it waits.
@@ -74,6 +89,17 @@ fn crossing<T: Send>(value: T) -> T
 }
 
 impl Suspended {
+    // Returns what the evaluation goes on from, and its patterns.
+    pub(crate) fn into_parts(self) -> (Parts, Vec<Text>)
+        ensures environment { result.0.environment ≡ self.environment }
+        ensures patterns { result.1.items ≡ self.patterns }
+        ensures stands { Stands result.0.environment result.0.machine result.0.control }
+        ensures tables { HasTables result.0.environment result.0.tables }
+    {
+        let Suspended { parts, patterns } = self;
+        (Box::into_inner(parts), patterns)
+    }
+
     /// Returns the same evaluation, which may go on in another thread.
     pub fn for_another_thread(self) -> Suspended
         ensures { result ≡ self }
@@ -85,10 +111,10 @@ impl Suspended {
     /// that is so only at powers of two, so that an evaluation of many globs is begun again a few times and not at each of
     /// them. No outcome hangs on that, so no contract says anything of it.
     pub fn is_large(&self) -> bool {
-        if self.machine.state.heap.allocated_bytes() <= MOST_KEPT {
+        if self.parts.machine.state.heap.allocated_bytes() <= MOST_KEPT {
             return false;
         }
-        let answers = answer_count(&self.environment.package.answers);
+        let answers = answer_count(&self.parts.environment.package.answers);
         answers <= FEW_ANSWERS || answers.is_power_of_two()
     }
 

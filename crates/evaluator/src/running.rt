@@ -9,7 +9,7 @@ ghost use Rattle.evaluator.specs.Files.{Stands, HasTables, answered, shared_text
 ghost use Rattle.evaluator.specs.Outcomes.{Evaluates, IsLeft, Shows};
 
 use crate::machine::{Environment, Machine, Progress, Stop};
-use crate::outcome::{Fault, Outcome, Suspended};
+use crate::outcome::{Fault, Outcome, Parts, Suspended};
 use crate::setting::{Tables, functions_in};
 use crate::turning::go;
 use base_types::{Memory, Text};
@@ -227,18 +227,14 @@ fn go_on(
         Ok(Progress::Waits(control, patterns)) => {
             let alloc = machine.state.heap.alloc;
             let asked = share_all(alloc, patterns.as_slice())?;
-            let environment = Box::new(alloc, environment)?;
-            let tables = Box::new(alloc, tables)?;
-            let machine = Box::new(alloc, machine)?;
-            let control = Box::new(alloc, control)?;
-            let suspended = Suspended {
+            let parts = Parts {
                 environment,
                 tables,
                 machine,
                 control,
-                patterns,
             };
-            Ok(Outcome::Need(asked, suspended))
+            let parts = Box::new(alloc, parts)?;
+            Ok(Outcome::Need(asked, Suspended { parts, patterns }))
         }
         Ok(Progress::Ended(_)) => leave_file(machine.state, &environment),
         Ok(Progress::Goes(_)) => unreachable!(),
@@ -288,23 +284,17 @@ pub fn resume(suspended: Suspended, results: Vec<Arc<Vec<Text>, Global>>) -> Res
     ensures { Evaluates (answered (env_of suspended.environment) suspended.patterns
         (map shared_texts results.items)) result }
 {
-    let Suspended {
-        environment,
+    let (parts, patterns) = suspended.into_parts();
+    let Parts {
+        mut environment,
         tables,
         machine,
         control,
-        patterns,
-    } = suspended;
-    let mut environment = Box::into_inner(environment);
+    } = parts;
     add_answers(
         &mut environment.package.answers,
         patterns.as_slice(),
         results.as_slice(),
     )?;
-    go_on(
-        environment,
-        Box::into_inner(tables),
-        Box::into_inner(machine),
-        Box::into_inner(control),
-    )
+    go_on(environment, tables, machine, control)
 }

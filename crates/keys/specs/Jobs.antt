@@ -25,8 +25,7 @@ pub record Outcome : Type 0 where
   pub asked : JobView
   pub ending : Ending
 
--- a node that waits for a group, after these answers
+-- a node that waits for a group after these answers
 pub record Waits : Type 0 where
   pub key : Key
   pub answers : List Value
-  pub group : List Key

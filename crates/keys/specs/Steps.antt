@@ -9,5 +9,5 @@ use Rattle.keys.specs.declared.turned.TurnEnd.TheVariants as step
 
 -- it waits for the group that `next` gives for the job, or ends with the value that `next` gives
 abbrev pub IsStep : {R S : Type 0} → (Key → List Value → Reply Key Value) → JobView → TurnEnd R S → Type 0
-IsStep next asked (step.Paused w) = (w.key ≡ asked.key) × (w.answers ≡ asked.answers) × (next asked.key asked.answers ≡ Ask w.group)
+IsStep next asked (step.Paused w group) = (w.key ≡ asked.key) × (w.answers ≡ asked.answers) × (next asked.key asked.answers ≡ Ask group.items)
 IsStep next asked (step.Done key v) = (key ≡ asked.key) × (next asked.key asked.answers ≡ Done v)

@@ -55,16 +55,17 @@ impl Key {
     pub fn share(&self) -> Result<Key, Memory>
         ensures { IfOk result (λ k. k ≡ self.now) }
     {
+        let name = self.name().share()?;
         match self {
-            Key::File(path) => Ok(Key::File(path.share()?)),
-            Key::Listing(directory) => Ok(Key::Listing(directory.share()?)),
-            Key::Lookup(package) => Ok(Key::Lookup(package.share()?)),
-            Key::Glob(directory, pattern, directories) => {
-                Ok(Key::Glob(directory.share()?, pattern.share()?, *directories))
+            Key::File(_) => Ok(Key::File(name)),
+            Key::Listing(_) => Ok(Key::Listing(name)),
+            Key::Lookup(_) => Ok(Key::Lookup(name)),
+            Key::Glob(_, pattern, directories) => {
+                Ok(Key::Glob(name, pattern.share()?, *directories))
             }
-            Key::Module(label) => Ok(Key::Module(label.share()?)),
-            Key::Package(package) => Ok(Key::Package(package.share()?)),
-            Key::Under(directory) => Ok(Key::Under(directory.share()?)),
+            Key::Module(_) => Ok(Key::Module(name)),
+            Key::Package(_) => Ok(Key::Package(name)),
+            Key::Under(_) => Ok(Key::Under(name)),
         }
     }
 

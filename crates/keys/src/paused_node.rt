@@ -1,4 +1,4 @@
-//! A node that waits for a group.
+//! The state of a node that waits for a group.
 ghost use Rattle.std.specs.Prelude.{◌≡◌, ◌++◌, OnOk, OnErr};
 ghost use Rattle.keys.specs.Turns.{values, FitsFrom};
 
@@ -10,13 +10,12 @@ use base_types::Memory;
 use std::marker::Model;
 use std::sync::Arc;
 
-/// A node that waits for a group, with its state. A contract sees its key, the answers so far and the group.
+/// A node that waits for a group, with its state. A contract sees its key and the answers before that group.
 #[derive(Drop)]
 pub struct PausedNode<R: Rules> {
     key: Key,
     state: R::State,
     answers: Vec<Arc<Value>>,
-    group: Vec<Key>,
 }
 
 impl<R: Rules> Model for PausedNode<R> {
@@ -30,29 +29,22 @@ impl<R: Rules> Model for PausedNode<R> {
 
     ghost coded = { Prim.hlevel (codes, loaded_code) };
 
-    ghost view = { λ w. record { key = w.key; answers = values w.answers.items; group = w.group.items } };
+    ghost view = { λ w. record { key = w.key; answers = values w.answers.items } };
 
     ghost invariant = { λ w. FitsFrom R.fits w.state w.key (values w.answers.items) };
 }
 
 impl<R: Rules> PausedNode<R> {
     // Makes a node that waits, with a state that fits the key and what comes after these answers.
-    pub(crate) fn new(
-        key: Key,
-        state: R::State,
-        answers: Vec<Arc<Value>>,
-        group: Vec<Key>,
-    ) -> PausedNode<R>
+    pub(crate) fn new(key: Key, state: R::State, answers: Vec<Arc<Value>>) -> PausedNode<R>
         requires { FitsFrom R.fits state key (values answers.items) }
         ensures key { result.key ≡ key }
         ensures answers { result.answers ≡ values answers.items }
-        ensures group { result.group ≡ group.items }
     {
         PausedNode {
             key,
             state,
             answers,
-            group,
         }
     }
 
@@ -61,13 +53,6 @@ impl<R: Rules> PausedNode<R> {
         ensures { result.now ≡ self.now.key }
     {
         &self.key
-    }
-
-    /// Returns the group that it waits for.
-    pub fn group(&self) -> &[Key]
-        ensures { result.now ≡ self.now.group }
-    {
-        self.group.as_slice()
     }
 
     /// Adds the answers to the group after those that it has. Returns `Memory` if an allocation fails; the node then
@@ -90,7 +75,6 @@ impl<R: Rules> PausedNode<R> {
             key,
             state,
             answers,
-            group: _,
         } = self;
         Job::from_state(key, state, answers)
     }

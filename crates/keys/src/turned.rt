@@ -55,7 +55,7 @@ impl<R: Rules> Model for Turned<R> {
 #[derive(Drop)]
 pub enum TurnEnd<R: Rules> {
     /// The node waits for a group.
-    Paused(PausedNode<R>),
+    Paused(PausedNode<R>, Vec<Key>),
     /// The node's key and its value.
     Done(Key, Value),
 }
@@ -132,9 +132,9 @@ impl<R: Rules> Turned<R> {
             answer,
         } = self;
         match answer {
-            TurnResult::Made(Turn::Ask(state, group)) => Ok(TurnEnd::Paused(PausedNode::new(
-                key, state, answers, group,
-            ))),
+            TurnResult::Made(Turn::Ask(state, group)) => {
+                Ok(TurnEnd::Paused(PausedNode::new(key, state, answers), group))
+            }
             TurnResult::Made(Turn::Done(value)) => Ok(TurnEnd::Done(key, value)),
             TurnResult::Refused(error) => Err(error),
             TurnResult::NotBegun(error) => Err(error),

@@ -12,7 +12,9 @@ use Rattle.std.specs.Arc.{arc_value}
 use Rattle.std.specs.Map.{keys_of}
 use Rattle.std.proofs.lemmas.List.{map-append, length-append}
 use Rattle.std.proofs.lemmas.List.Elements.{All-nil}
-use Rattle.node_table.specs.Tables.{Grows}
+use Rattle.indexmap.proofs.MapLemmas.{some_index}
+use Rattle.keys.specs.Keys.{key_eq}
+use Rattle.node_table.specs.Tables.{Grows, AreDistinct, key_at, number_of}
 use Rattle.node_table.proofs.Flats.{groups_stay}
 use Rattle.node.specs.Records.{Records, Users, AsksNumbers, by_keys, kept_at, record_of, row_of}
 use Rattle.node.proofs.Numbering.{all_below}
@@ -22,7 +24,7 @@ use Rattle.node.specs.Writes.{settled_record, HasReadyMembers}
 use Rattle.node.proofs.Lists.{none_some, some_is, true_false, not_in, decide_key}
 use Rattle.node.proofs.Linking.{seen_all}
 use Rattle.node.proofs.Writing.{written_linked}
-use Rattle.node_table.proofs.Numbers.{value_pushed, others_pushed}
+use Rattle.node_table.proofs.Numbers.{number_iff, value_pushed, others_pushed}
 
 -- the members have clean records after the write
 ready_now : (old new : Key → Option (Record Key Value)) (key : Key) (r : Record Key Value) → new key ≡ Some r → r.dirty ≡ false → ((j : Key) → key ≢ j → new j ≡ old j) → (groups : List (List Key)) → HasReadyMembers old key groups
@@ -141,9 +143,26 @@ pub absent : (o : Option NodeRecord) (b : Bool) → b ≡ is_some o → b ≡ fa
 absent None b e f = refl
 absent (Some x) b e f = cc
 
+-- a key with a number has a record
+pub numbered_there : (es : Records) (k : Key) (n : ℕ) → number_of es k ≡ Some n → is_some (kept_at es k) ≡ true
+numbered_there es k n h = sym (some_index (key_eq k) es) ∙ ap is_some h
+
+last_key : (es : Records) (k : Key) (e : NodeRecord) → key_at (es ++ (k, e) ∷ []) (length es) ≡ Some k
+last_key [] k e = refl
+last_key (x ∷ es) k e = last_key es k e
+
+-- the number of the last key
+pub placed_number : (old placed : Records) (k : Key) (e : NodeRecord) (n : ℕ) → placed ≡ old ++ (k, e) ∷ [] → AreDistinct placed → n ≡ length old → number_of placed k ≡ Some n
+placed_number old placed k e n p d q =
+    (number_iff placed d k n).1 (subst (λ (es : Records). key_at es n ≡ Some k) (sym p) (subst (λ m. key_at (old ++ (k, e) ∷ []) m ≡ Some k) (sym q) (last_key old k e)))
+
 pub present_at : (keys : List Key) (o : Option NodeRecord) (b : Bool) → b ≡ is_some o → b ≡ true → IsSome (option_map (record_of keys) o)
 present_at keys None b e t = absurd (true_false t e)
 present_at keys (Some x) b e t = refl
+
+-- a key with a number is recorded
+pub recorded_at : (es : Records) (k : Key) (n : ℕ) → number_of es k ≡ Some n → IsSome (records_of es k)
+recorded_at es k n h = present_at (keys_of es) (kept_at es k) true (sym (numbered_there es k n h)) refl
 
 -- what a contract of the graph sees of it
 module _ (old : Records) (version : ℕ) (was : GraphView) (b : recorded version old ≡ was) where

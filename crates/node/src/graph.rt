@@ -35,11 +35,20 @@ use std::sync::Arc;
 /// may have changed it (it is then dirty). A contract sees the graph's version and the records, in the order in which
 /// their keys were first recorded. The reverse edges, from a key to those whose records have it in a group, are in the
 /// key's own record and are the inverse of the groups.
-#[derive(Drop)]
 pub struct Graph {
     alloc: Global,
     version: u32,
     records: Records,
+}
+
+impl Drop for Graph {
+    fn drop(self) {
+        let Graph {
+            alloc: _,
+            version: _,
+            records: _,
+        } = self;
+    }
 }
 
 impl Model for Graph {

@@ -1,8 +1,8 @@
 //! Records written in place.
-ghost use Rattle.std.specs.Prelude.{◌≡◌, ◌<◌, Some, None, false, length, OnOk, OnErr, IsSome, if◌then◌else◌};
+ghost use Rattle.std.specs.Prelude.{◌≡◌, ◌<◌, Some, None, false, length, IfOk, OnOk, OnErr, if◌then◌else◌};
 ghost use Rattle.std.specs.Arc.{arc_value};
 ghost use Rattle.std.specs.Map.{keys_of};
-ghost use Rattle.node_table.specs.Tables.{AreDistinct, Writes, key_at};
+ghost use Rattle.node_table.specs.Tables.{AreDistinct, Writes, key_at, number_of};
 ghost use Rattle.keys.specs.Values.{value_eq};
 ghost use Rattle.keys.specs.declared.key.Key.{Key};
 ghost use Rattle.node.specs.Records.{kept_at, items_of, numbers_of, AreNumbers, AsksNumbers, KeepsRecords, asked_of};
@@ -80,18 +80,19 @@ pub fn kept_members(records: &Records, number: NodeId) -> &[NodeId]
     records.value_at(number).groups.members()
 }
 
-/// Places a record without groups and reverse dependencies at a key that has none.
+/// Places a record without groups and reverse dependencies at a key that has none. Returns its number.
 pub fn place(
     alloc: Global,
     records: &mut Records,
     key: &Key,
     value: &Arc<Value>,
     version: u32,
-) -> Result<(), Memory>
+) -> Result<NodeId, Memory>
     requires ordered { AreDistinct records.old }
     requires none { kept_at records.old key.now ≡ None }
     ensures ok { OnOk result (HasPlaced records.old records.new key.now (arc_value value.now)
         version) }
+    ensures number { IfOk result (λ n. n ≡ length records.old) }
     ensures err { OnErr result (records.new ≡ records.old) }
     ensures ordered { AreDistinct records.new }
 {
@@ -103,21 +104,23 @@ pub fn place(
         changed_at: version,
         dirty: false,
     };
-    records.push(key.share()?, kept)?;
-    Ok(())
+    let number = records.push(key.share()?, kept)?;
+    Ok(number)
 }
 
-/// Writes a value and groups into the record of a key that has one, and the reverse edges with it. Returns `Memory` if
-/// an allocation fails. Then no record has changed, and each key has the reverse dependencies that it had.
+/// Writes a value and groups into the record with a number, which is that of a key, and the reverse edges with it.
+/// Returns `Memory` if an allocation fails. Then no record has changed, and each key has the reverse dependencies that
+/// it had.
 pub fn rewrite(
     alloc: Global,
     records: &mut Records,
     key: &Key,
+    user: NodeId,
     value: Arc<Value>,
     groups: Vec<Vec<Key>>,
     version: u32,
 ) -> Result<(), Memory>
-    requires recorded { IsSome (records_of records.old key.now) }
+    requires numbered { number_of records.old key.now ≡ Some user }
     requires linked { IsLinkedBy records.old }
     requires members { HasMemberRecords records.old (items_of groups.items) }
     ensures ok { OnOk result (SetsSettled records.old records.new key.now (arc_value value)
@@ -128,7 +131,6 @@ pub fn rewrite(
     ensures numbers { AreNumbers records.new (numbers_of records.new) }
     ensures asks { AsksNumbers records.new }
 {
-    let user = records.id_of(key).unwrap();
     let keep = members_beside(alloc, kept_members(records, user), groups.as_slice())?;
     let linked = members_with(alloc, records, kept_members(records, user))?;
     let flat = FlatGroups::of(alloc, records, groups.as_slice())?;
@@ -159,12 +161,12 @@ pub fn store(
     ensures err { OnErr result (KeepsRecords records.old records.new) }
     ensures linked { IsLinkedBy records.new }
 {
-    if records.contains_key(key) {
-        rewrite(alloc, records, key, value, groups, version)?;
+    if let Some(user) = records.id_of(key) {
+        rewrite(alloc, records, key, user, value, groups, version)?;
         return Ok(());
     }
-    place(alloc, records, key, &value, version)?;
-    match rewrite(alloc, records, key, value, groups, version) {
+    let user = place(alloc, records, key, &value, version)?;
+    match rewrite(alloc, records, key, user, value, groups, version) {
         Ok(()) => Ok(()),
         Err(error) => {
             let _placed = records.pop();

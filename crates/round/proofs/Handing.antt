@@ -53,9 +53,9 @@ module _ (graph : GraphView) (before later : OpenNodes) (k : Key) (w : IsWhole (
   pub has_answers : (slice : List (List Key)) → ((m : Node) → node_at before.nodes k ≡ Some m → slice ≡ groups_of m) → Answers (record_at graph) slice None → ⊥
   has_answers slice e a = never_none (record_at graph) (groups_of n) all_plain (subst (λ gs. Answers (record_at graph) gs None) (e n there) a)
 
-  -- without a kept state it needs all of them
-  pub needs_all : (kept : NodeStates) → get key_eq kept k ≡ None → (slice : List (List Key)) → ((m : Node) → node_at before.nodes k ≡ Some m → slice ≡ groups_of m) → (found : Option (List Value)) → Answers (record_at graph) slice found → NeedsValues graph before kept k found
-  needs_all kept e slice q (Some found) a = (ready, λ m x. subst (λ o. AreAnswers (record_at graph) (groups_of m) (kept_answers o ++ found)) (sym e) (subst (λ gs. AreAnswers (record_at graph) gs found) (q m x) a))
+  -- where no kept state has answers it needs all of them
+  pub needs_all : (kept : NodeStates) → kept_answers (get key_eq kept k) ≡ [] → (slice : List (List Key)) → ((m : Node) → node_at before.nodes k ≡ Some m → slice ≡ groups_of m) → (found : Option (List Value)) → Answers (record_at graph) slice found → NeedsValues graph before kept k found
+  needs_all kept e slice q (Some found) a = (ready, λ m x. subst (λ vs. AreAnswers (record_at graph) (groups_of m) (vs ++ found)) (sym e) (subst (λ gs. AreAnswers (record_at graph) gs found) (q m x) a))
   needs_all kept e slice q None a = λ i. has_answers slice q a
 
   -- and its job is not out yet

@@ -12,7 +12,7 @@ use Rattle.keys.specs.declared.key.Key.{Key}
 use Rattle.keys.specs.declared.value.Value.{Value}
 use Rattle.node.specs.Graphs.{GraphView, record_at}
 use Rattle.node.specs.Records.{items_of}
-use Rattle.node.proofs.Lists.{some_is, true_false, none_of, not_in, decide_key, in_split, in_left, in_right, in_one}
+use Rattle.node.proofs.Lists.{some_is, none_some, true_false, none_of, not_in, decide_key, in_split, in_left, in_right, in_one}
 use Rattle.round_nodes.proofs.Lookups.{other_key}
 use Rattle.round_nodes.specs.Nodes.{Nodes, node_at, Records, groups_of, pending, IsOpen, IsUnsettled, IsClean, IsPlain, Stands, IsCurrent, IsBlocked, IsWhole, AreOut}
 use Rattle.round_nodes.specs.Steps.{Pends, Readies, HasWatcher, SameRuns}
@@ -31,6 +31,9 @@ use Rattle.round_nodes.specs.Members.{IsMissing, plain_value}
 use Rattle.round_nodes.proofs.Grouping.{clean_cycle}
 use Rattle.round.specs.Moves.{Wants, IsOpenOrSettled, KeepsOpened}
 use Rattle.round.specs.Looks.{IsAwaiting, IsLastGroup, IsRunningAt, IsNextKey}
+use Rattle.round.specs.Finding.{Finds, FindsIn, FindsRunning, IsIdle}
+use Rattle.round.specs.declared.visiting.Look.{Look}
+use Rattle.round.specs.declared.visiting.Look.TheVariants as look
 use Rattle.round.proofs.Wanting.{StaysTrue, wanted_set}
 
 -- the last elements of equal lists
@@ -227,21 +230,25 @@ running_awaits graph before k group missing run m n = record { node = run.0; the
     current (inr p) = p
 
 -- a node that does neither is visited for nothing
-pub looked_idle : (graph : GraphView) (table : OpenNodes) (k : Key) → IsWhole (record_at graph) table.nodes table.ready.keys (k ∷ pending table)
-    → ((n : Node) (at : ℕ) → node_at table.nodes k ≡ Some n → n.phase ≡ phase.Checking at → ⊥) → ((n : Node) → node_at table.nodes k ≡ Some n → n.phase ≡ phase.Running → ⊥) → IsWhole (record_at graph) table.nodes table.ready.keys (pending table)
-looked_idle graph table k w not_checking not_running = looked_at (record_at graph) table.nodes table.ready.keys (pending table) k w (λ n e o. absurd (go n e n.phase refl o))
+looked_idle : (graph : GraphView) (table : OpenNodes) (k : Key) → IsWhole (record_at graph) table.nodes table.ready.keys (k ∷ pending table) → IsIdle table k → IsWhole (record_at graph) table.nodes table.ready.keys (pending table)
+looked_idle graph table k w idle = looked_at (record_at graph) table.nodes table.ready.keys (pending table) k w (λ n e o. absurd (go n e o idle))
   where
-    go : (n : Node) → node_at table.nodes k ≡ Some n → (p : Phase) → n.phase ≡ p → n.phase ≢ phase.Out → ⊥
-    go n e (phase.Checking at) q o = not_checking n at e q
-    go n e phase.Running q o = not_running n e q
-    go n e phase.Out q o = o q
+    go : (n : Node) → node_at table.nodes k ≡ Some n → n.phase ≢ phase.Out → IsIdle table k → ⊥
+    go n e o (inl none) = none_some (sym none ∙ e)
+    go n e o (inr out) = o (ap (λ (x : Node). x.phase) (some_is (sym e ∙ out.1)) ∙ out.2)
 
-pub stop_in : (group before rest : List Key) (k : Key) → group ≡ before ++ k ∷ rest → In k group
-stop_in group before rest k e = subst (In k) (sym e) (in_right before first)
+-- what the last group of a node that makes turns shows
+pub running_finds : (records : Records) (table : OpenNodes) (k : Key) (group : List Key) → IsRunningAt table k group → (found : Look) → FindsIn records group found → Finds records table k found
+running_finds records table k group r (look.Checks at) f = absurd f
+running_finds records table k group r (look.Lacks missing) f = record { group = group; running = r; finds = f }
+running_finds records table k group r look.Answered f = record { group = group; running = r; finds = f }
+running_finds records table k group r look.Rests f = inr (record { group = group; running = r; finds = f })
 
--- a list with an element is not empty
-pub some_missing : (missing : Vec Key Global) (slice : List Key) → slice ≡ missing.items → {b : Bool} → b ≡ (vec_len missing == 0) → b ≡ false → slice ≡ [] → ⊥
-some_missing missing slice q {b = b} h f e = let n : vec_len missing ≡ 0 = missing.ok.0 ∙ ap length (sym q ∙ e) in true_false (h ∙ ap (λ x. x == 0) n) f
+-- a visit that finds nothing to do
+pub looked_for_nothing : (graph : GraphView) (table : OpenNodes) (k : Key) → IsWhole (record_at graph) table.nodes table.ready.keys (k ∷ pending table)
+    → IsIdle table k ⊎ FindsRunning (record_at graph) table k look.Rests → IsWhole (record_at graph) table.nodes table.ready.keys (pending table)
+looked_for_nothing graph table k w (inl idle) = looked_idle graph table k w idle
+looked_for_nothing graph table k w (inr f) = let s = f.finds.stop in held_back graph table k f.group f.running w f.finds.settled s.0 s.1 s.2
 
 -- where none is missing, all members are settled
 pub none_missing : (records : Records) (group : List Key) (missing : Vec Key Global) → IsMissing records group missing.items → (b : Bool) → b ≡ (vec_len missing == 0) → b ≡ true → (j : Key) → In j group → IsClean records j

@@ -1,5 +1,5 @@
 -- States kept between turns.
-use Rattle.std.proofs.Common.{◌≡◌, ◌≢◌, inl, inr, ℕ, ◌-◌, Bool, false, true, cond, List, [], ◌∷◌, ◌++◌, map, Option, Some, None, IfSome, refl, sym, ◌∙◌, ap, subst, length, take, drop, arith, length-append, append_assoc}
+use Rattle.std.proofs.Common.{◌≡◌, ◌≢◌, ◌<◌, inl, inr, ℕ, ◌-◌, Bool, false, true, cond, List, [], ◌∷◌, ◌++◌, map, Option, Some, None, IfSome, refl, sym, ◌∙◌, ap, subst, length, take, drop, arith, length-append, append_assoc}
 use Rattle.std.specs.Bool.{Decides}
 use Rattle.indexmap.specs.IndexMap.{get, Updates}
 use Rattle.std.specs.Option.{is_some}
@@ -15,7 +15,7 @@ use Rattle.keys.specs.declared.key.Key.{Key}
 use Rattle.keys.specs.declared.value.Value.{Value}
 use Rattle.node.specs.Graphs.{GraphView, record_at}
 use Rattle.node.specs.Records.{items_of}
-use Rattle.node.proofs.Lists.{some_is, none_some, decide_key}
+use Rattle.node.proofs.Lists.{some_is, none_some, none_of, decide_key}
 use Rattle.round_nodes.proofs.Lookups.{other_key, same_or_key}
 use Rattle.round_nodes.specs.Nodes.{Records, node_at, groups_of, IsPlain}
 use Rattle.round_nodes.specs.Steps.{HasPhase, HasAsked}
@@ -27,7 +27,7 @@ use Rattle.round_nodes.specs.Members.{no_cycle, plain_value, all_values, AreAnsw
 use Rattle.round.specs.Moves.{IsInOrder}
 use Rattle.round.specs.NodeStates.{IsPaused, NodeStates, ArePaused, FewerKept, HasState, DropsState, PutsState, SameStates, TakesOut, NeedsValues, kept_answers, Keeps}
 use Rattle.round.specs.Turning.{IsOutWith, IsOutAt}
-use Rattle.round_nodes.proofs.Grouping.{never_none}
+use Rattle.round_nodes.proofs.Grouping.{never_none, items_length}
 use Rattle.round.proofs.Wanting.{some_there, none_there}
 
 -- each of these is there
@@ -188,6 +188,22 @@ last_one gs passed group n e q =
     place : n ≡ length passed
     place = let l = ap length e ∙ length-append passed (group ∷ []) in let m = length-map gs (λ (g : Vec Key Global). g.items) in omega (arith, l, m, q)
 
+-- a state of a node that asked for at most one group has no answers
+pub no_answers_yet : (graph : GraphView) (table : OpenNodes) (kept : NodeStates) (k : Key) → ArePaused graph table kept → (slice : List (Vec Key Global))
+    → ((m : Node) → node_at table.nodes k ≡ Some m → items_of slice ≡ groups_of m) → length slice < 2 → kept_answers (get key_eq kept k) ≡ []
+no_answers_yet graph table kept k a slice q short = go (get key_eq kept k) refl
+  where
+    nothing : (passed : List (List Key)) (answers : List Value) → passed ≡ [] → AreAnswers (record_at graph) passed answers → answers ≡ []
+    nothing passed [] e h = refl
+    nothing passed (v ∷ vs) e h = let f : [] ≡ map (λ w. Some w) (v ∷ vs) = subst (λ ps. AreAnswers (record_at graph) ps (v ∷ vs)) e h in cc
+
+    go : (o : Option Waits) → get key_eq kept k ≡ o → kept_answers o ≡ []
+    go None e = refl
+    go (Some w) e = let p = a k w e in
+        let n : length (p.passed ++ p.group ∷ []) ≡ length slice = ap length (sym p.split ∙ sym (q p.node p.there)) ∙ items_length slice in
+        let z : length p.passed ≡ 0 = let l = length-append p.passed (p.group ∷ []) in omega (arith, l, n, short) in
+        nothing p.passed w.answers (none_of p.passed z) p.answered
+
 -- one state more
 pub one_kept : (old new : NodeStates) (key : Key) (w : Waits) → Updates key_eq old new key (Some w) → Keeps old new key (Some w)
 one_kept old new key w u k x e = elim (same_or_key old new key _ u k) [
@@ -211,13 +227,6 @@ out_fewer old new key t k w e = elim (decide_key key k) [
 
 pub same_fewer : (old new : NodeStates) → SameStates old new → FewerKept old new
 same_fewer old new same k w e = sym (same k) ∙ e
-
--- a state was written over by itself
-pub same_again : (old new : NodeStates) (key : Key) (w : Waits) → get key_eq old key ≡ Some w → Updates key_eq old new key (Some w) → SameStates old new
-same_again old new key w e u k = elim (same_or_key old new key (Some w) u k) [
-  | inl q ↦ ap (get key_eq new) (sym q) ∙ u.1 ∙ sym e ∙ ap (get key_eq old) q
-  | inr p ↦ p
-]
 
 -- a state was written over and taken out
 pub written_out : (old middle new : NodeStates) (key : Key) (o : Option Waits) → Updates key_eq old middle key o → Updates key_eq middle new key None → TakesOut old new key

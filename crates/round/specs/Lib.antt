@@ -1,5 +1,6 @@
 pub mod Moves
 pub mod Looks
+pub mod Finding
 pub mod Turning
 pub mod Call
 pub mod Closing

@@ -34,11 +34,7 @@ IsChecking table k at = (n : Node) × (node_at table.nodes k ≡ Some n) × (n.p
 abbrev pub IsLastGroup : List (List Key) → List Key → Type 0
 IsLastGroup groups group = ((groups ≡ []) × (group ≡ [])) ⊎ ((passed : List (List Key)) × (groups ≡ passed ++ group ∷ []))
 
--- an open node that makes turns
-abbrev pub IsRunning : OpenNodes → Key → Type 0
-IsRunning table k = (n : Node) × (node_at table.nodes k ≡ Some n) × (n.phase ≡ phase.Running)
-
--- the same, and this is its last group
+-- an open node that makes turns, and this is its last group
 abbrev pub IsRunningAt : OpenNodes → Key → List Key → Type 0
 IsRunningAt table k group = (n : Node) × (node_at table.nodes k ≡ Some n) × (n.phase ≡ phase.Running) × IsLastGroup (groups_of n) group
 

@@ -44,13 +44,24 @@ use std::alloc::Global;
 /// One evaluation of roots, turn by turn. It keeps neither the graph nor the tree: each of its calls must get the same
 /// ones, which nothing else changes meanwhile (the round agrees with the graph). Between two turns of a node its state
 /// is kept. A contract sees the roots, the open nodes with the runs so far, and the keys whose jobs are out.
-#[derive(Drop)]
 pub struct Round<R: Rules> {
     alloc: Global,
     roots: Vec<Key>,
     table: OpenNodes,
     out: OutKeys,
     kept: IndexMap<Key, PausedNode<R>>,
+}
+
+impl<R: Rules> Drop for Round<R> {
+    fn drop(self) {
+        let Round {
+            alloc: _,
+            roots: _,
+            table: _,
+            out: _,
+            kept: _,
+        } = self;
+    }
 }
 
 /// Why a turn was not taken back.

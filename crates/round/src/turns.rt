@@ -1,10 +1,10 @@
 //! Turns that are handed out and taken back.
-ghost use Rattle.std.specs.Prelude.{◌≡◌, ◌++◌, ◌∷◌, [], List, IfOk, OnOk, OnErr, Option, Some, None, IsTrue};
+ghost use Rattle.std.specs.Prelude.{◌≡◌, ◌++◌, ◌∷◌, [], List, IfNone, IfOk, IfSome, OnOk, OnErr, Option, Some, None, IsTrue};
 ghost use Rattle.indexmap.specs.IndexMap.{get, Updates};
 ghost use Rattle.std.specs.Option.{option_map};
 ghost use Rattle.node.specs.Graphs.{record_at};
 ghost use Rattle.round_nodes.specs.Members.{Answers};
-ghost use Rattle.round.specs.NodeStates.{ArePaused, NeedsValues, SameStates, TakesOut, kept_answers};
+ghost use Rattle.round.specs.NodeStates.{ArePaused, HasState, NeedsValues, SameStates, TakesOut, kept_answers};
 ghost use Rattle.std.specs.Bool.{Decides};
 ghost use Rattle.keys.specs.Turns.{values};
 ghost use Rattle.keys.specs.Keys.{key_eq};
@@ -25,7 +25,7 @@ use base_types::Memory;
 use indexmap::IndexMap;
 use keys::{Job, Key, PausedNode, Rules, TurnEnd, Turned, Value};
 use node::Graph;
-use round_nodes::{Nodes, OpenNodes, Phase, answers_to, ask_group, share_all};
+use round_nodes::{Nodes, OpenNodes, Phase, answers_to, ask_group};
 use std::alloc::Global;
 use std::sync::Arc;
 
@@ -39,18 +39,16 @@ fn asked_groups<'a>(nodes: &'a Nodes, key: &Key) -> &'a [Vec<Key>]
     }
 }
 
-// Returns the values of the members of the last group that a node asked for.
+// Returns the values of the members of the last of the groups.
 fn last_answers(
     alloc: Global,
     graph: &Graph,
-    table: &OpenNodes,
-    key: &Key,
+    groups: &[Vec<Key>],
 ) -> Result<Option<Vec<Arc<Value>>>, Memory>
-    ensures { IfOk result (λ found. (n : Node) (passed : List (List Key)) (group : List Key)
-        → node_at table.now.nodes key.now ≡ Some n → groups_of n ≡ passed ++ group ∷ []
+    ensures { IfOk result (λ found. (passed : List (List Key)) (group : List Key)
+        → items_of groups.now ≡ passed ++ group ∷ []
         → Answers (record_at graph.now) (group ∷ []) (option_map (λ v. values v.items) found)) }
 {
-    let groups = asked_groups(&table.nodes, key);
     let last = groups.len().saturating_sub(1);
     let found = answers_to(alloc, graph, &groups[last..])?;
     Ok(found)
@@ -73,27 +71,38 @@ pub fn values_needed<R: Rules>(
     if !table.ready.contains(key) {
         return Ok(None);
     }
-    if kept.contains_key(key) {
-        return Ok(last_answers(alloc, graph, table, key)?);
+    let groups = asked_groups(&table.nodes, key);
+    // The state of a node that asked for one group has no answers yet.
+    if groups.len() < 2 {
+        return Ok(answers_to(alloc, graph, groups)?);
     }
-    Ok(answers_to(alloc, graph, asked_groups(&table.nodes, key))?)
+    if kept.contains_key(key) {
+        return Ok(last_answers(alloc, graph, groups)?);
+    }
+    Ok(answers_to(alloc, graph, groups)?)
 }
 
-// Adds the values to the answers that the kept state of a key has.
+// Adds the values to the answers that the kept state of a key has, or returns them if there is no such state.
 fn answer_kept<R: Rules>(
     kept: &mut IndexMap<Key, PausedNode<R>>,
     key: &Key,
     found: Vec<Arc<Value>>,
-) -> Result<(), Memory>
+) -> Result<Option<Vec<Arc<Value>>>, Memory>
     ensures answered { OnOk result ((w : Waits) → get key_eq kept.old key.now ≡ Some w
         → Updates key_eq kept.old kept.new key.now
         (Some (record w { answers = w.answers ++ values found.items }))) }
+    ensures none { IfOk result (λ left. IfSome left (λ vs. (vs ≡ found) × (kept.new ≡ kept.old)
+        × (get key_eq kept.old key.now ≡ None))) }
+    ensures some { IfOk result (λ left. IfNone left (HasState kept.old key.now)) }
     ensures refused { OnErr result (SameStates kept.old kept.new) }
 {
-    if let Some(waiting) = kept.get_mut(key) {
-        waiting.answer(found)?;
+    match kept.get_mut(key) {
+        None => Ok(Some(found)),
+        Some(waiting) => {
+            waiting.answer(found)?;
+            Ok(None)
+        }
     }
-    Ok(())
 }
 
 /// Returns the job of the next turn of a key, from its kept state or from scratch, with these values after the answers
@@ -111,12 +120,14 @@ pub fn take_job<R: Rules>(
     ensures taken { OnOk result (TakesOut kept.old kept.new key) }
     ensures refused { OnErr result (SameStates kept.old kept.new) }
 {
-    if !kept.contains_key(&key) {
-        return Ok(Job::new(key, found));
+    let left = answer_kept(kept, &key, found)?;
+    match left {
+        Some(found) => Ok(Job::new(key, found)),
+        None => {
+            let waiting = kept.swap_remove(&key).unwrap();
+            Ok(waiting.into_job())
+        }
     }
-    answer_kept(kept, &key, found)?;
-    let waiting = kept.swap_remove(&key).unwrap();
-    Ok(waiting.into_job())
 }
 
 // Returns whether the values are the same, one by one.
@@ -186,8 +197,7 @@ pub fn accept_turn<R: Rules>(
             finish_node(alloc, graph, table, key, value)?;
             Ok(None)
         }
-        TurnEnd::Paused(waiting) => {
-            let group = share_all(alloc, waiting.group())?;
+        TurnEnd::Paused(waiting, group) => {
             ask_group(table, waiting.key(), group)?;
             Ok(Some(waiting))
         }

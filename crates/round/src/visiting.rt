@@ -1,18 +1,19 @@
 //! Opening nodes, visiting those that wait, and settling them.
-ghost use Rattle.std.specs.Prelude.{◌≡◌, ◌+◌, ◌<◌, [], ℕ, true, false, IfOk, OnOk, Some, IfSome, IfNone, IsTrue, Option, ◌∷◌, None, List};
+ghost use Rattle.std.specs.Prelude.{◌≡◌, ◌+◌, ◌<◌, [], true, false, IfOk, OnOk, Some, IsTrue, Option, ◌∷◌, None, List};
 ghost use Rattle.std.specs.Option.{is_some};
 ghost use Rattle.engine_semantics.specs.Value.{In};
 ghost use Rattle.filetree.specs.Files.{Files};
-ghost use Rattle.round_nodes.specs.Nodes.{IsClean, node_at, groups_of, pending, IsUnsettled};
+ghost use Rattle.round_nodes.specs.Nodes.{IsClean, node_at, pending, IsUnsettled};
 ghost use Rattle.keys.specs.Leaves as leaves;
 ghost use Rattle.keys.specs.declared.key.Key.{Key};
 ghost use Rattle.keys.specs.declared.value.Value.{Value};
 ghost use Rattle.node.specs.Graphs.{record_at};
 ghost use Rattle.round_nodes.specs.TurnCounts.{MakesNoTurn};
-ghost use Rattle.round_nodes.specs.declared.table.Node.{Node};
 ghost use Rattle.round_nodes.specs.declared.table.Phase.TheVariants as phase;
 ghost use Rattle.round.specs.Frames.{KeepsOthers, KeepsOthersBut};
-ghost use Rattle.round.specs.Looks.{IsAwaiting, IsChecking, IsLastGroup, IsRunning, IsNextKey, HasPassed};
+ghost use Rattle.round.specs.Looks.{IsAwaiting, IsChecking, IsLastGroup, IsNextKey, HasPassed};
+ghost use Rattle.round.specs.Finding.{Finds, FindsIn};
+ghost use Rattle.node.specs.Records.{items_of};
 ghost use Rattle.round.specs.Moves.{KeepsInvariant, IsInOrderBut, IsInOrder, KeepsOut, KeepsOpened, KeepsInvariantOf, Wants, IsOpenOrSettled};
 ghost use Rattle.round.specs.Turning.{IsOutWith, ComesBack};
 ghost use Rattle.round.specs.TurnCalls.{LooksOnce, EndsTruly};
@@ -22,8 +23,8 @@ use filetree::Tree;
 use keys::{Key, Value, is_leaf, read_leaf};
 use node::{Comparison, Graph};
 use round_nodes::{
-    Nodes, OpenNodes, Phase, begin_check, begin_run, close_node, enqueue, first_stop, is_settled,
-    log_run, pass_groups, put_ready, restart, some_unsettled, unsettled_members, wait_for,
+    Nodes, OpenNodes, Phase, begin_check, begin_run, close_node, enqueue, is_settled, log_run,
+    look_at_group, pass_groups, put_ready, restart, some_unsettled, wait_for,
 };
 use std::alloc::Global;
 use std::sync::Arc;
@@ -246,81 +247,56 @@ fn check(
     Ok(())
 }
 
-// Returns the last group that a node's turns asked for.
-fn last_group<'a>(nodes: &'a Nodes, key: &Key) -> &'a [Key]
-    ensures { (n : Node) → node_at nodes.now key.now ≡ Some n
-        → IsLastGroup (groups_of n) result.now }
+// What a visit of a node finds.
+#[derive(Drop)]
+enum Look {
+    // Its record is checked, and this many groups have passed.
+    Checks(usize),
+    // These members of the last group that its turns asked for are not settled.
+    Lacks(Vec<Key>),
+    // All members of that group have values.
+    Answered,
+    // There is nothing to do: its job is out, it is settled, or it leads into a cycle.
+    Rests,
+}
+
+// Returns the last of the groups, or nothing if there is none.
+fn last_group(groups: &[Vec<Key>]) -> &[Key]
+    ensures { IsLastGroup (items_of groups.now) result.now }
 {
-    match nodes.get(key) {
+    match groups.last() {
         None => &[],
-        Some(node) => match node.groups.as_slice().last() {
-            None => &[],
-            Some(group) => group.as_slice(),
-        },
+        Some(group) => group.as_slice(),
     }
 }
 
-// Visits a node that makes turns.
-fn visit_running(
-    alloc: Global,
-    graph: &mut Graph,
-    tree: &Tree,
-    table: &mut OpenNodes,
-    key: &Key,
-) -> Result<(), Memory>
-    requires whole { IsInOrderBut key.now graph.old table.old }
-    requires running { IsRunning table.old key.now }
-    ensures whole { OnOk result (IsInOrder graph.new table.new) }
-    ensures out { OnOk result (KeepsOut table.old table.new) }
-    ensures keeps { OnOk result (KeepsOpened graph.old graph.new table.old table.new) }
-    ensures turns { OnOk result (MakesNoTurn table.old table.new) }
-    ensures frame { OnOk result (KeepsOthers graph.old graph.new table.old table.new) }
-    ensures truth { KeepsInvariant (leaves.read tree.now) graph.old graph.new table.old table.new
-        result }
-    ensures looked { OnOk result (table.new.visited ≡ table.old.visited) }
+// Looks at the last group that the turns of a node asked for.
+fn look_in(alloc: Global, graph: &Graph, group: &[Key]) -> Result<Look, Memory>
+    ensures { IfOk result (FindsIn (record_at graph.now) group.now) }
 {
-    let group = last_group(&table.nodes, key);
-    let missing = unsettled_members(alloc, graph, group)?;
+    let (missing, has_cycle) = look_at_group(alloc, graph, group)?;
     if !missing.is_empty() {
-        return wait_for_group(alloc, graph, tree, table, key, missing.as_slice());
+        return Ok(Look::Lacks(missing));
     }
-    match first_stop(graph, group) {
-        Some(_) => Ok(()),
-        None => {
-            put_ready(table, key)?;
-            Ok(())
-        }
+    if has_cycle {
+        return Ok(Look::Rests);
     }
+    Ok(Look::Answered)
 }
 
-// Returns how many groups the check of a node passed, if its record is checked.
-fn passed_of(nodes: &Nodes, key: &Key) -> Option<usize>
-    ensures some { IfSome result (λ at. (n : Node) × (node_at nodes.now key.now ≡ Some n)
-        × (n.phase ≡ phase.Checking at)) }
-    ensures none { IfNone result ((n : Node) (at : ℕ) → node_at nodes.now key.now ≡ Some n → n.phase
-        ≡ phase.Checking at → ⊥) }
+// Looks at a node.
+fn look_at(alloc: Global, graph: &Graph, table: &OpenNodes, key: &Key) -> Result<Look, Memory>
+    ensures { IfOk result (Finds (record_at graph.now) table.now key.now) }
 {
-    match nodes.get(key) {
-        None => None,
+    match table.nodes.get(key) {
+        None => Ok(Look::Rests),
         Some(node) => match node.phase {
-            Phase::Checking(passed) => Some(passed),
-            _ => None,
-        },
-    }
-}
-
-// Returns whether a node makes turns and its job is not out.
-fn is_running(nodes: &Nodes, key: &Key) -> bool
-    ensures yes { IsTrue result → (n : Node) × (node_at nodes.now key.now ≡ Some n)
-        × (n.phase ≡ phase.Running) }
-    ensures no { (n : Node) → node_at nodes.now key.now ≡ Some n → n.phase ≡ phase.Running
-        → IsTrue result }
-{
-    match nodes.get(key) {
-        None => false,
-        Some(node) => match node.phase {
-            Phase::Running => true,
-            _ => false,
+            Phase::Checking(passed) => Ok(Look::Checks(passed)),
+            Phase::Running => {
+                let found = look_in(alloc, graph, last_group(node.groups.as_slice()))?;
+                Ok(found)
+            }
+            Phase::Out => Ok(Look::Rests),
         },
     }
 }
@@ -343,13 +319,16 @@ fn visit(
         result }
     ensures looked { OnOk result (table.new.visited ≡ table.old.visited) }
 {
-    if let Some(passed) = passed_of(&table.nodes, key) {
-        return check(alloc, graph, tree, table, key, passed);
+    let found = look_at(alloc, graph, table, key)?;
+    match found {
+        Look::Checks(passed) => check(alloc, graph, tree, table, key, passed),
+        Look::Lacks(missing) => wait_for_group(alloc, graph, tree, table, key, missing.as_slice()),
+        Look::Answered => {
+            put_ready(table, key)?;
+            Ok(())
+        }
+        Look::Rests => Ok(()),
     }
-    if is_running(&table.nodes, key) {
-        return visit_running(alloc, graph, tree, table, key);
-    }
-    Ok(())
 }
 
 // Takes the next key that is to be visited.

@@ -21,7 +21,7 @@ use Rattle.keys.specs.declared.value.Value.TheVariants as value
 use Rattle.node.specs.Graphs.{present}
 use Rattle.node.proofs.Lists.{none_some, true_false, not_in, in_split, in_left, in_right, in_one, some_is}
 use Rattle.round_nodes.specs.Nodes.{Records, IsClean, IsPlain, IsUnsettled}
-use Rattle.round_nodes.specs.Members.{IsMissing, FindsUnsettled, is_cycle, no_cycle, plain_value, AnswersGroup, all_values, AreAnswers, Answers}
+use Rattle.round_nodes.specs.Members.{IsMissing, HasCycle, FindsUnsettled, is_cycle, no_cycle, plain_value, AnswersGroup, all_values, AreAnswers, Answers}
 
 pub snoc_in : {X : Type 0} (xs : List X) {x y : X} → In y (xs ++ x ∷ []) → In y xs ⊎ (y ≡ x)
 snoc_in xs {x = x} i = elim (in_split i xs (x ∷ []) refl) [ inl a ↦ inl a | inr b ↦ inr (in_one b) ]
@@ -183,6 +183,32 @@ plain_false records k e = go (plain_value (records k)) refl
     go : (o : Option Value) → plain_value (records k) ≡ o → plain_value (records k) ≡ None
     go None q = q
     go (Some v) q = absurd (true_false (ap is_some q) e)
+
+-- a key that is settled as a cycle
+pub settled_cycle : (records : Records) (k : Key) (v : Value) → Some v ≡ present (records k) → is_cycle v ≡ true → IsClean records k × (plain_value (records k) ≡ None)
+settled_cycle records k v e h = let c = present_clean records k v (sym e) in
+    ((c.0, c.1, c.2), ap plain_value c.1 ∙ ap (λ b. cond b None (no_cycle c.0.value)) c.2 ∙ ap no_cycle c.3 ∙ ap (λ b. cond b None (Some v)) h)
+
+-- a key that is settled with a value that is no cycle
+pub settled_plain : (records : Records) (k : Key) (v : Value) → Some v ≡ present (records k) → is_cycle v ≡ false → IsPlain records k
+settled_plain records k v e h = let c = present_clean records k v (sym e) in (c.0, c.1, c.2, no_cycle_is c.0.value (ap is_cycle c.3 ∙ h))
+
+module _ (records : Records) (k : Key) (group : List Key) where
+  -- one member more that is not settled, or that has a value
+  pub cycle_unsettled : (b : Bool) → HasCycle records group b → IsUnsettled records k → HasCycle records (group ++ k ∷ []) b
+  cycle_unsettled true h u = (h.0, in_left (k ∷ []) h.1, h.2, h.3)
+  cycle_unsettled false h u = λ j i c. elim (snoc_in group i) [ inl a ↦ h j a c | inr q ↦ let d = subst (IsClean records) q c in absurd (unsettled_clean u d) ]
+    where
+      unsettled_clean : IsUnsettled records k → IsClean records k → ⊥
+      unsettled_clean u d = none_some (sym u ∙ ap present d.1 ∙ ap (λ b. cond b None (Some d.0.value)) d.2)
+
+  pub cycle_plain : (b : Bool) → HasCycle records group b → IsPlain records k → HasCycle records (group ++ k ∷ []) b
+  cycle_plain true h p = (h.0, in_left (k ∷ []) h.1, h.2, h.3)
+  cycle_plain false h p = λ j i c. elim (snoc_in group i) [ inl a ↦ h j a c | inr q ↦ subst (IsPlain records) (sym q) p ]
+
+  -- one member more that is settled as a cycle
+  pub cycle_found : IsClean records k → plain_value (records k) ≡ None → HasCycle records (group ++ k ∷ []) true
+  cycle_found c e = (k, in_right group first, c, e)
 
 -- a shared value put after the others
 pub pushed_value : (old new : List (Arc Value Global)) (x : Arc Value Global) (v : Value) → new ≡ old ++ x ∷ [] → arc_value x ≡ v → values new ≡ values old ++ v ∷ []

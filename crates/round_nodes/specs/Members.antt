@@ -40,6 +40,11 @@ abbrev pub IsStop : Records → List Key → Option Key → Type 0
 IsStop records group (Some k) = (before : List Key) × (rest : List Key) × (group ≡ before ++ k ∷ rest) × ((j : Key) → In j before → IsPlain records j) × (plain_value (records k) ≡ None)
 IsStop records group None = (j : Key) → In j group → IsPlain records j
 
+-- a member is settled as a cycle, or each settled member has a value
+abbrev pub HasCycle : Records → List Key → Bool → Type 0
+HasCycle records group true = (j : Key) × In j group × IsClean records j × (plain_value (records j) ≡ None)
+HasCycle records group false = (j : Key) → In j group → IsClean records j → IsPlain records j
+
 -- the values of a group were added to the answers, or a member has none
 abbrev pub AnswersGroup : Records → List Key → List Value → List Value → Bool → Type 0
 AnswersGroup records group old new true = (vs : List Value) × (new ≡ old ++ vs) × (map (λ k. plain_value (records k)) group ≡ map (λ v. Some v) vs)

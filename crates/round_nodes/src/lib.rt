@@ -8,9 +8,7 @@ mod run;
 mod steps;
 mod table;
 
-pub use members::{
-    answers_to, first_stop, is_settled, share_all, some_unsettled, unsettled_members,
-};
+pub use members::{answers_to, first_stop, is_settled, look_at_group, share_all, some_unsettled};
 pub use ready::ReadySet;
 pub use run::Run;
 pub use steps::{

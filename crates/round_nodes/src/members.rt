@@ -31,19 +31,40 @@ pub fn is_settled(graph: &Graph, key: &Key) -> bool
     graph.get(key).is_some()
 }
 
-/// Returns the members of a group that are not settled.
-pub fn unsettled_members(alloc: Global, graph: &Graph, group: &[Key]) -> Result<Vec<Key>, Memory>
-    ensures { IfOk result (λ missing. specs.IsMissing (record_at graph.now) group.now
-        missing.items) }
+// Returns whether a value is a cycle.
+fn is_cycle(value: &Value) -> bool
+    ensures { result ≡ specs.is_cycle value.now }
+{
+    match value {
+        Value::Cycle(_) => true,
+        _ => false,
+    }
+}
+
+/// Returns the members of a group that are not settled, and whether another one is settled as a cycle.
+pub fn look_at_group(
+    alloc: Global,
+    graph: &Graph,
+    group: &[Key],
+) -> Result<(Vec<Key>, bool), Memory>
+    ensures missing { IfOk result
+        (λ found. specs.IsMissing (record_at graph.now) group.now found.0.items) }
+    ensures cycle { IfOk result
+        (λ found. specs.HasCycle (record_at graph.now) group.now found.1) }
 {
     let mut missing = Vec::new(alloc);
+    let mut has_cycle = false;
     for key in group {
-        if is_settled(graph, key) {
-            continue;
+        match graph.get(key) {
+            None => missing.push(key.share()?)?,
+            Some(value) => {
+                if is_cycle(value) {
+                    has_cycle = true;
+                }
+            }
         }
-        missing.push(key.share()?)?;
     }
-    Ok(missing)
+    Ok((missing, has_cycle))
 }
 
 /// Fewer keys than this are never halved.
@@ -76,16 +97,6 @@ pub fn some_unsettled<'a>(graph: &Graph, keys: &'a [Key]) -> Option<&'a Key>
     match last_unsettled(graph, front) {
         Some(key) => Some(key),
         None => last_unsettled(graph, back),
-    }
-}
-
-// Returns whether a value is a cycle.
-fn is_cycle(value: &Value) -> bool
-    ensures { result ≡ specs.is_cycle value.now }
-{
-    match value {
-        Value::Cycle(_) => true,
-        _ => false,
     }
 }
 

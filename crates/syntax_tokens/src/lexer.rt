@@ -46,12 +46,15 @@ fn first_non_ascii(text: &[u8]) -> Option<usize>
     None
 }
 
+// How many bytes a token and the space before it have on average, with which room is made for the tokens of a text.
+const BYTES_A_TOKEN: usize = 4;
+
 /// Reads the tokens of a text that is ASCII. Does not check their nesting.
 fn scan(alloc: Global, text: &[u8]) -> Result<Vec<Lexeme<'_>>, ScanError>
     requires { IsAscii text.now }
     ensures { Scans (scan start 0 text.now) result }
 {
-    let mut scanner = Scanner::new(alloc);
+    let mut scanner = Scanner::new(alloc, text.len() / BYTES_A_TOKEN)?;
     let mut left = text;
     'pieces: while !left.is_empty() {
         match piece_at(left) {

@@ -1,5 +1,5 @@
 //! The tokens so far, and what is open: the statement, levels of indentation, brackets.
-ghost use Rattle.std.specs.Prelude.{◌≡◌, ◌∷◌, ◌++◌, ◌+◌, ◌<◌, ◌≤◌, ◌^◌, [], vec_len, IsOkUnless, OnOk};
+ghost use Rattle.std.specs.Prelude.{◌≡◌, ◌∷◌, ◌++◌, ◌+◌, ◌<◌, ◌≤◌, ◌^◌, [], vec_len, IfOk, IsOkUnless, OnOk};
 ghost use Rattle.syntax_tokens.specs.Lines.{top, open_levels, dedents, layout, layout_at, begun, begun_at, brackets_after, shut, with_brackets, state_after_token, spaced_at, end_token, ended_at, part_after, after, tokens_of_part, ending, start, lex};
 ghost use Rattle.syntax_tokens.specs.Token.{tok_of, symbol};
 ghost use Rattle.syntax_tokens.specs.View.{part_of, piece_of, state_of, said_by, Goes, Ends};
@@ -70,20 +70,22 @@ pub(crate) struct Scanner<'a> {
 }
 
 impl<'a> Scanner<'a> {
-    /// Makes a scanner at the start of a text.
-    pub(crate) fn new(alloc: Global) -> Scanner<'a>
-        ensures state { state_of result ≡ start }
-        ensures said { said_by result ≡ [] }
-        ensures place { (result.line ≡ 1) × (result.spaces ≡ 0) }
+    /// Makes a scanner at the start of a text, with room for as many tokens.
+    pub(crate) fn new(alloc: Global, tokens: usize) -> Result<Scanner<'a>, ScanError>
+        ensures state { IfOk result (λ s. state_of s ≡ start) }
+        ensures said { IfOk result (λ s. said_by s ≡ []) }
+        ensures place { IfOk result (λ s. (s.line ≡ 1) × (s.spaces ≡ 0)) }
+        ensures err { IsOkUnless result (ScanError.Memory memory) }
     {
-        Scanner {
+        let out = Vec::with_capacity(alloc, tokens)?;
+        Ok(Scanner {
             place: Place::Start,
             spaces: 0,
             levels: Vec::new(alloc),
             brackets: Vec::new(alloc),
             line: 1,
-            out: Vec::new(alloc),
-        }
+            out,
+        })
     }
 
     /// Adds a token.

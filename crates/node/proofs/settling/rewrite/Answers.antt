@@ -10,24 +10,20 @@ use Rattle.node.specs.Edges.{HasCut, HasLinkedAll, HasUsers}
 use Rattle.node.specs.Graphs.{records_of}
 use Rattle.node.specs.Writes.{groups_at, SameSets}
 use Rattle.node.proofs.Joining.{cut_by_members, cut_fewer}
-use Rattle.node.proofs.Numbering.{concat_below, groups_below, have_numbers, key_same, key_within, members_same, numbered_key, same_length}
+use Rattle.node.proofs.Numbering.{concat_below, groups_below, have_numbers, key_same, key_within, members_same, same_length}
 use Rattle.node.proofs.Relating.{distinct_kept, has_number, keys_linked_some, keys_linked_all, keys_cut, numbers_fewer, numbers_linked, numbers_same, users_same, within_kept}
 use Rattle.node.proofs.Rewriting.{complete_at, undone_users, finished_users, flat_member, member_flat, linked_wider}
 use Rattle.node.proofs.Showing.{asked_below, asked_member, keeps_asked, keeps_asks, keeps_keys, keeps_seen, member_asked, rewritten_asks, rewritten_keys, rewritten_lists, rewritten_sets, some_kept}
+use Rattle.node.proofs.Storing.{recorded_at}
 use Rattle.node.proofs.settling.rewrite.Goals as goal
-
-pub unwrap-user-requires : goal.unwrap-user-requires
-unwrap-user-requires c =
-    let s = some_kept (keys_of c.args.records.now) (kept_at c.args.records.now c.args.key.now) c.requires.recorded in
-    numbered_key c.args.records.now c.args.key.now c.id_of.result c.id_of.ensures.number (ap is_some s.1)
 
 pub members_with-requires : goal.members_with-requires
 members_with-requires c =
     let records = c.args.records.now in
     let key = c.args.key.now in
-    let user = c.unwrap-user.result in
-    let d = c.id_of.ensures.distinct in
-    let at = (number_iff records d key user).0 (sym c.id_of.ensures.number ∙ c.unwrap-user.ensures) in
+    let user = c.args.user in
+    let d = c.requires.linked.ordered in
+    let at = (number_iff records d key user).0 c.requires.numbered in
     subst (All (λ n. n < length records)) (sym (c.kept_members-2.ensures key at)) (asked_below records c.requires.linked.asks key)
 
 pub of-requires : goal.of-requires
@@ -41,9 +37,9 @@ link_members-requires-clause-linked c = λ j i.
     let records = c.args.records.now in
     let lists = numbers_of records in
     let key = c.args.key.now in
-    let user = c.unwrap-user.result in
-    let d = c.id_of.ensures.distinct in
-    let at = (number_iff records d key user).0 (sym c.id_of.ensures.number ∙ c.unwrap-user.ensures) in
+    let user = c.args.user in
+    let d = c.requires.linked.ordered in
+    let at = (number_iff records d key user).0 c.requires.numbered in
     let asked = subst (λ (ns : List ℕ). In j (members_in records ns)) (c.kept_members-2.ensures key at) ((c.in_ok-linked.ensures j).0 i) in
     has_number records d key user at lists j (complete_at (records_of records) (users_of records) c.requires.linked.linked key j (asked_member records key j asked))
 
@@ -51,33 +47,33 @@ pub kept_members-requires-clause-within : goal.kept_members-requires-clause-with
 kept_members-requires-clause-within c =
     let records = c.args.records.now in
     let key = c.args.key.now in
-    let user = c.unwrap-user.result in
-    let d = c.id_of.ensures.distinct in
-    let at = (number_iff records d key user).0 (sym c.id_of.ensures.number ∙ c.unwrap-user.ensures) in
+    let user = c.args.user in
+    let d = c.requires.linked.ordered in
+    let at = (number_iff records d key user).0 c.requires.numbered in
     key_within records user key at
 
 pub kept_members-requires-clause-distinct : goal.kept_members-requires-clause-distinct
-kept_members-requires-clause-distinct c = c.id_of.ensures.distinct
+kept_members-requires-clause-distinct c = c.requires.linked.ordered
 
 pub kept_members-requires-2-clause-within : goal.kept_members-requires-2-clause-within
 kept_members-requires-2-clause-within c =
     let records = c.args.records.now in
     let key = c.args.key.now in
-    let user = c.unwrap-user.result in
-    let d = c.id_of.ensures.distinct in
-    let at = (number_iff records d key user).0 (sym c.id_of.ensures.number ∙ c.unwrap-user.ensures) in
+    let user = c.args.user in
+    let d = c.requires.linked.ordered in
+    let at = (number_iff records d key user).0 c.requires.numbered in
     key_within records user key at
 
 pub kept_members-requires-2-clause-distinct : goal.kept_members-requires-2-clause-distinct
-kept_members-requires-2-clause-distinct c = c.id_of.ensures.distinct
+kept_members-requires-2-clause-distinct c = c.requires.linked.ordered
 
 pub link_members-requires-clause-numbers : goal.link_members-requires-clause-numbers
 link_members-requires-clause-numbers c =
     let records = c.args.records.now in
     let key = c.args.key.now in
-    let user = c.unwrap-user.result in
-    let d = c.id_of.ensures.distinct in
-    let at = (number_iff records d key user).0 (sym c.id_of.ensures.number ∙ c.unwrap-user.ensures) in
+    let user = c.args.user in
+    let d = c.requires.linked.ordered in
+    let at = (number_iff records d key user).0 c.requires.numbered in
     let flat = c.in_ok-flat.flat in
     let have = subst (HaveNumbers records) (sym (ap items_of c.as_slice-2.ensures.value)) (have_numbers records (items_of c.args.groups.items) (λ j m. let x = some_kept (keys_of records) (kept_at records j) (c.requires.members j m) in ap is_some x.1)) in
     let below = concat_below (length records) flat (subst (All (All (λ n. n < length records))) (sym c.in_ok-flat.ensures.numbers) (groups_below records d (items_of c.as_slice-2.result.now) have)) in
@@ -88,9 +84,9 @@ drop_edges_to-requires-clause-within c =
     let records = c.args.records.now in
     let lists = numbers_of records in
     let key = c.args.key.now in
-    let user = c.unwrap-user.result in
-    let d = c.id_of.ensures.distinct in
-    let at = (number_iff records d key user).0 (sym c.id_of.ensures.number ∙ c.unwrap-user.ensures) in
+    let user = c.args.user in
+    let d = c.requires.linked.ordered in
+    let at = (number_iff records d key user).0 c.requires.numbered in
     let middle = c.link_members.new.records in
     let same = c.link_members.ensures.same in
     let keys = keeps_keys records middle same in
@@ -98,7 +94,7 @@ drop_edges_to-requires-clause-within c =
 
 pub drop_edges_to-requires-clause-distinct : goal.drop_edges_to-requires-clause-distinct
 drop_edges_to-requires-clause-distinct c =
-    distinct_kept c.args.records.now c.link_members.new.records (keeps_keys c.args.records.now c.link_members.new.records c.link_members.ensures.same) c.id_of.ensures.distinct
+    distinct_kept c.args.records.now c.link_members.new.records (keeps_keys c.args.records.now c.link_members.new.records c.link_members.ensures.same) c.requires.linked.ordered
 
 pub drop_edges_to-requires-clause-members : goal.drop_edges_to-requires-clause-members
 drop_edges_to-requires-clause-members c = keeps_asks c.args.records.now c.link_members.new.records c.link_members.ensures.same c.requires.linked.asks
@@ -107,9 +103,9 @@ pub drop_edges_to-requires-clause-numbers : goal.drop_edges_to-requires-clause-n
 drop_edges_to-requires-clause-numbers c =
     let records = c.args.records.now in
     let key = c.args.key.now in
-    let user = c.unwrap-user.result in
-    let d = c.id_of.ensures.distinct in
-    let at = (number_iff records d key user).0 (sym c.id_of.ensures.number ∙ c.unwrap-user.ensures) in
+    let user = c.args.user in
+    let d = c.requires.linked.ordered in
+    let at = (number_iff records d key user).0 c.requires.numbered in
     let middle = c.link_members.new.records in
     let same = c.link_members.ensures.same in
     let keys = keeps_keys records middle same in
@@ -123,9 +119,9 @@ returns-in-Err-clause-err c =
     let records = c.args.records.now in
     let lists = numbers_of records in
     let key = c.args.key.now in
-    let user = c.unwrap-user.result in
-    let d = c.id_of.ensures.distinct in
-    let at = (number_iff records d key user).0 (sym c.id_of.ensures.number ∙ c.unwrap-user.ensures) in
+    let user = c.args.user in
+    let d = c.requires.linked.ordered in
+    let at = (number_iff records d key user).0 c.requires.numbered in
     let middle = c.link_members.new.records in
     let same = c.link_members.ensures.same in
     let keys = keeps_keys records middle same in
@@ -156,9 +152,9 @@ returns-in-Err-clause-numbers c =
     let records = c.args.records.now in
     let lists = numbers_of records in
     let key = c.args.key.now in
-    let user = c.unwrap-user.result in
-    let d = c.id_of.ensures.distinct in
-    let at = (number_iff records d key user).0 (sym c.id_of.ensures.number ∙ c.unwrap-user.ensures) in
+    let user = c.args.user in
+    let d = c.requires.linked.ordered in
+    let at = (number_iff records d key user).0 c.requires.numbered in
     let middle = c.link_members.new.records in
     let same = c.link_members.ensures.same in
     let keys = keeps_keys records middle same in
@@ -170,21 +166,21 @@ returns-in-Err-clause-numbers c =
 
 pub write-old-requires-clause-distinct : goal.write-old-requires-clause-distinct
 write-old-requires-clause-distinct c =
-    distinct_kept c.args.records.now c.link_members.new.records (keeps_keys c.args.records.now c.link_members.new.records c.link_members.ensures.same) c.id_of.ensures.distinct
+    distinct_kept c.args.records.now c.link_members.new.records (keeps_keys c.args.records.now c.link_members.new.records c.link_members.ensures.same) c.requires.linked.ordered
 
 pub drop_edges_except-requires-clause-numbers : goal.drop_edges_except-requires-clause-numbers
 drop_edges_except-requires-clause-numbers c =
     let records = c.args.records.now in
     let lists = numbers_of records in
     let key = c.args.key.now in
-    let user = c.unwrap-user.result in
-    let d = c.id_of.ensures.distinct in
-    let at = (number_iff records d key user).0 (sym c.id_of.ensures.number ∙ c.unwrap-user.ensures) in
+    let user = c.args.user in
+    let d = c.requires.linked.ordered in
+    let at = (number_iff records d key user).0 c.requires.numbered in
     let middle = c.link_members.new.records in
     let same = c.link_members.ensures.same in
     let keys = keeps_keys records middle same in
     let wrote = c.write-old.new.records in
-    let s = some_kept (keys_of middle) (kept_at middle key) (subst IsSome (sym (λ i. keeps_seen records middle same i key)) c.requires.recorded) in
+    let s = some_kept (keys_of middle) (kept_at middle key) (subst IsSome (sym (λ i. keeps_seen records middle same i key)) (recorded_at c.args.records.now c.args.key.now c.args.user c.requires.numbered)) in
     let u = c.write-old.ensures.updates key s.0 (key_same records middle keys user ∙ at) s.1 in
     let wrote_keys = u.keys ∙ keys in
     let numbers = c.members-2.ensures ∙ ap concat (c.write-old.ensures.groups key s.0 (key_same records middle keys user ∙ at) s.1) ∙ ap asked_of (sym s.1) ∙ keeps_asked records middle same key in
@@ -195,14 +191,14 @@ drop_edges_except-requires-clause-distinct c =
     let records = c.args.records.now in
     let lists = numbers_of records in
     let key = c.args.key.now in
-    let user = c.unwrap-user.result in
-    let d = c.id_of.ensures.distinct in
-    let at = (number_iff records d key user).0 (sym c.id_of.ensures.number ∙ c.unwrap-user.ensures) in
+    let user = c.args.user in
+    let d = c.requires.linked.ordered in
+    let at = (number_iff records d key user).0 c.requires.numbered in
     let middle = c.link_members.new.records in
     let same = c.link_members.ensures.same in
     let keys = keeps_keys records middle same in
     let wrote = c.write-old.new.records in
-    let s = some_kept (keys_of middle) (kept_at middle key) (subst IsSome (sym (λ i. keeps_seen records middle same i key)) c.requires.recorded) in
+    let s = some_kept (keys_of middle) (kept_at middle key) (subst IsSome (sym (λ i. keeps_seen records middle same i key)) (recorded_at c.args.records.now c.args.key.now c.args.user c.requires.numbered)) in
     let u = c.write-old.ensures.updates key s.0 (key_same records middle keys user ∙ at) s.1 in
     let wrote_keys = u.keys ∙ keys in
     distinct_kept records wrote wrote_keys d
@@ -212,14 +208,14 @@ returns-clause-ok c =
     let records = c.args.records.now in
     let lists = numbers_of records in
     let key = c.args.key.now in
-    let user = c.unwrap-user.result in
-    let d = c.id_of.ensures.distinct in
-    let at = (number_iff records d key user).0 (sym c.id_of.ensures.number ∙ c.unwrap-user.ensures) in
+    let user = c.args.user in
+    let d = c.requires.linked.ordered in
+    let at = (number_iff records d key user).0 c.requires.numbered in
     let middle = c.link_members.new.records in
     let same = c.link_members.ensures.same in
     let keys = keeps_keys records middle same in
     let wrote = c.write-old.new.records in
-    let s = some_kept (keys_of middle) (kept_at middle key) (subst IsSome (sym (λ i. keeps_seen records middle same i key)) c.requires.recorded) in
+    let s = some_kept (keys_of middle) (kept_at middle key) (subst IsSome (sym (λ i. keeps_seen records middle same i key)) (recorded_at c.args.records.now c.args.key.now c.args.user c.requires.numbered)) in
     let u = c.write-old.ensures.updates key s.0 (key_same records middle keys user ∙ at) s.1 in
     let wrote_keys = u.keys ∙ keys in
     let final = c.drop_edges_except.new.records in
@@ -231,14 +227,14 @@ returns-clause-users c =
     let records = c.args.records.now in
     let lists = numbers_of records in
     let key = c.args.key.now in
-    let user = c.unwrap-user.result in
-    let d = c.id_of.ensures.distinct in
-    let at = (number_iff records d key user).0 (sym c.id_of.ensures.number ∙ c.unwrap-user.ensures) in
+    let user = c.args.user in
+    let d = c.requires.linked.ordered in
+    let at = (number_iff records d key user).0 c.requires.numbered in
     let middle = c.link_members.new.records in
     let same = c.link_members.ensures.same in
     let keys = keeps_keys records middle same in
     let wrote = c.write-old.new.records in
-    let s = some_kept (keys_of middle) (kept_at middle key) (subst IsSome (sym (λ i. keeps_seen records middle same i key)) c.requires.recorded) in
+    let s = some_kept (keys_of middle) (kept_at middle key) (subst IsSome (sym (λ i. keeps_seen records middle same i key)) (recorded_at c.args.records.now c.args.key.now c.args.user c.requires.numbered)) in
     let u = c.write-old.ensures.updates key s.0 (key_same records middle keys user ∙ at) s.1 in
     let wrote_keys = u.keys ∙ keys in
     let numbers = c.members-2.ensures ∙ ap concat (c.write-old.ensures.groups key s.0 (key_same records middle keys user ∙ at) s.1) ∙ ap asked_of (sym s.1) ∙ keeps_asked records middle same key in
@@ -267,14 +263,14 @@ returns-clause-keys c =
     let records = c.args.records.now in
     let lists = numbers_of records in
     let key = c.args.key.now in
-    let user = c.unwrap-user.result in
-    let d = c.id_of.ensures.distinct in
-    let at = (number_iff records d key user).0 (sym c.id_of.ensures.number ∙ c.unwrap-user.ensures) in
+    let user = c.args.user in
+    let d = c.requires.linked.ordered in
+    let at = (number_iff records d key user).0 c.requires.numbered in
     let middle = c.link_members.new.records in
     let same = c.link_members.ensures.same in
     let keys = keeps_keys records middle same in
     let wrote = c.write-old.new.records in
-    let s = some_kept (keys_of middle) (kept_at middle key) (subst IsSome (sym (λ i. keeps_seen records middle same i key)) c.requires.recorded) in
+    let s = some_kept (keys_of middle) (kept_at middle key) (subst IsSome (sym (λ i. keeps_seen records middle same i key)) (recorded_at c.args.records.now c.args.key.now c.args.user c.requires.numbered)) in
     let u = c.write-old.ensures.updates key s.0 (key_same records middle keys user ∙ at) s.1 in
     let wrote_keys = u.keys ∙ keys in
     let final = c.drop_edges_except.new.records in
@@ -286,14 +282,14 @@ returns-clause-asks c =
     let records = c.args.records.now in
     let lists = numbers_of records in
     let key = c.args.key.now in
-    let user = c.unwrap-user.result in
-    let d = c.id_of.ensures.distinct in
-    let at = (number_iff records d key user).0 (sym c.id_of.ensures.number ∙ c.unwrap-user.ensures) in
+    let user = c.args.user in
+    let d = c.requires.linked.ordered in
+    let at = (number_iff records d key user).0 c.requires.numbered in
     let middle = c.link_members.new.records in
     let same = c.link_members.ensures.same in
     let keys = keeps_keys records middle same in
     let wrote = c.write-old.new.records in
-    let s = some_kept (keys_of middle) (kept_at middle key) (subst IsSome (sym (λ i. keeps_seen records middle same i key)) c.requires.recorded) in
+    let s = some_kept (keys_of middle) (kept_at middle key) (subst IsSome (sym (λ i. keeps_seen records middle same i key)) (recorded_at c.args.records.now c.args.key.now c.args.user c.requires.numbered)) in
     let u = c.write-old.ensures.updates key s.0 (key_same records middle keys user ∙ at) s.1 in
     let wrote_keys = u.keys ∙ keys in
     let final = c.drop_edges_except.new.records in
@@ -306,14 +302,14 @@ returns-clause-numbers c =
     let records = c.args.records.now in
     let lists = numbers_of records in
     let key = c.args.key.now in
-    let user = c.unwrap-user.result in
-    let d = c.id_of.ensures.distinct in
-    let at = (number_iff records d key user).0 (sym c.id_of.ensures.number ∙ c.unwrap-user.ensures) in
+    let user = c.args.user in
+    let d = c.requires.linked.ordered in
+    let at = (number_iff records d key user).0 c.requires.numbered in
     let middle = c.link_members.new.records in
     let same = c.link_members.ensures.same in
     let keys = keeps_keys records middle same in
     let wrote = c.write-old.new.records in
-    let s = some_kept (keys_of middle) (kept_at middle key) (subst IsSome (sym (λ i. keeps_seen records middle same i key)) c.requires.recorded) in
+    let s = some_kept (keys_of middle) (kept_at middle key) (subst IsSome (sym (λ i. keeps_seen records middle same i key)) (recorded_at c.args.records.now c.args.key.now c.args.user c.requires.numbered)) in
     let u = c.write-old.ensures.updates key s.0 (key_same records middle keys user ∙ at) s.1 in
     let wrote_keys = u.keys ∙ keys in
     let numbers = c.members-2.ensures ∙ ap concat (c.write-old.ensures.groups key s.0 (key_same records middle keys user ∙ at) s.1) ∙ ap asked_of (sym s.1) ∙ keeps_asked records middle same key in

@@ -1,4 +1,4 @@
-use Rattle.std.proofs.Common.{◌∷◌, [], None, ap, is_some, refl, sym, subst}
+use Rattle.std.proofs.Common.{◌∷◌, [], None, ap, is_some, refl, sym, subst, true}
 use Rattle.std.specs.Arc.{arc_value}
 use Rattle.std.specs.Map.{keys_of}
 use Rattle.std.specs.Option.{option_map, option_to_list}
@@ -7,22 +7,20 @@ use Rattle.node.specs.Graphs.{records_of, IsLinkedBy}
 use Rattle.node.specs.Writes.{settled_record, SameSets}
 use Rattle.node.proofs.Relating.{distinct_kept, front_linked, linked_again, linked_put, users_put}
 use Rattle.node.proofs.Showing.{popped_rows, pushed_lists}
-use Rattle.node.proofs.Storing.{ready_recorded, stored_again, stored_first, first_linked, placed_linked, placed_asks, placed_members, placed_there, placed_others, absent, present_at}
+use Rattle.node.proofs.Storing.{ready_recorded, stored_again, stored_first, first_linked, placed_linked, placed_asks, placed_members, placed_there, placed_others, placed_number, numbered_there, present_at}
+use Rattle.node_table.proofs.Numbers.{none_without_number}
 use Rattle.node.proofs.settling.store.Goals as goal
-
-pub rewrite-requires-clause-recorded : goal.rewrite-requires-clause-recorded
-rewrite-requires-clause-recorded c = present_at (keys_of c.args.records.now) (kept_at c.args.records.now c.args.key.now) c.contains_key.result c.contains_key.ensures.there c.if-contains_key.true
 
 pub rewrite-requires-clause-members : goal.rewrite-requires-clause-members
 rewrite-requires-clause-members c =
     let records = c.args.records.now in
     let key = c.args.key.now in
     let groups = items_of c.args.groups.items in
-    let own = present_at (keys_of records) (kept_at records key) c.contains_key.result c.contains_key.ensures.there c.if-contains_key.true in
+    let own = present_at (keys_of records) (kept_at records key) true (sym (numbered_there records key c.in-Some.user (sym c.in-Some.ensures.number))) refl in
     ready_recorded (records_of records) key groups own c.requires.ready
 
-pub returns-then-contains_key-clause-linked : goal.returns-then-contains_key-clause-linked
-returns-then-contains_key-clause-linked c =
+pub returns-in-Some-clause-linked : goal.returns-in-Some-clause-linked
+returns-in-Some-clause-linked c =
     let records = c.args.records.now in
     let key = c.args.key.now in
     let groups = items_of c.args.groups.items in
@@ -39,26 +37,10 @@ returns-in_err-rewrite-clause-linked c =
     let e = c.in_err-rewrite.ensures.err in linked_again c.args.records.now c.rewrite.new.records e.0 e.1 c.rewrite.ensures.numbers c.requires.linked
 
 pub place-requires-clause-none : goal.place-requires-clause-none
-place-requires-clause-none c = absent (kept_at c.args.records.now c.args.key.now) c.contains_key.result c.contains_key.ensures.there c.if-contains_key.false
+place-requires-clause-none c = none_without_number c.args.records.now c.args.key.now (sym c.in_default.ensures.number)
 
-pub returns-in_err-place-clause-linked : goal.returns-in_err-place-clause-linked
-returns-in_err-place-clause-linked c = subst IsLinkedBy (sym c.in_err-place.ensures.err) c.requires.linked
-
-pub rewrite-requires-2-clause-recorded : goal.rewrite-requires-2-clause-recorded
-rewrite-requires-2-clause-recorded c =
-    let records = c.args.records.now in
-    let key = c.args.key.now in
-    let groups = items_of c.args.groups.items in
-    let placed = c.place.new.records in
-    let p = c.in_ok-place.ensures.ok in
-    let none = absent (kept_at records key) c.contains_key.result c.contains_key.ensures.there c.if-contains_key.false in
-    let more : Records = (key, p.0) ∷ [] in
-    let lists = pushed_lists records placed key p.0 p.1 p.3 none in
-    let there = placed_there records placed key p.0 (arc_value c.args.value) c.args.version p.1 none p.2 c.requires.linked.asks in
-    let others = placed_others records placed key p.0 (arc_value c.args.value) c.args.version p.1 none p.2 c.requires.linked.asks in
-    let asks = placed_asks records placed key p.0 (arc_value c.args.value) c.args.version p.1 none p.2 c.requires.linked.asks in
-    let missing = ap (option_map (record_of (keys_of records))) none in
-    ap is_some there
+pub returns-in_err-user-clause-linked : goal.returns-in_err-user-clause-linked
+returns-in_err-user-clause-linked c = subst IsLinkedBy (sym c.in_err-user.ensures.err) c.requires.linked
 
 pub rewrite-requires-2-clause-linked : goal.rewrite-requires-2-clause-linked
 rewrite-requires-2-clause-linked c =
@@ -66,8 +48,8 @@ rewrite-requires-2-clause-linked c =
     let key = c.args.key.now in
     let groups = items_of c.args.groups.items in
     let placed = c.place.new.records in
-    let p = c.in_ok-place.ensures.ok in
-    let none = absent (kept_at records key) c.contains_key.result c.contains_key.ensures.there c.if-contains_key.false in
+    let p = c.in_ok-user.ensures.ok in
+    let none = none_without_number records key (sym c.in_default.ensures.number) in
     let more : Records = (key, p.0) ∷ [] in
     let lists = pushed_lists records placed key p.0 p.1 p.3 none in
     let there = placed_there records placed key p.0 (arc_value c.args.value) c.args.version p.1 none p.2 c.requires.linked.asks in
@@ -83,8 +65,8 @@ rewrite-requires-2-clause-members c =
     let key = c.args.key.now in
     let groups = items_of c.args.groups.items in
     let placed = c.place.new.records in
-    let p = c.in_ok-place.ensures.ok in
-    let none = absent (kept_at records key) c.contains_key.result c.contains_key.ensures.there c.if-contains_key.false in
+    let p = c.in_ok-user.ensures.ok in
+    let none = none_without_number records key (sym c.in_default.ensures.number) in
     let more : Records = (key, p.0) ∷ [] in
     let lists = pushed_lists records placed key p.0 p.1 p.3 none in
     let there = placed_there records placed key p.0 (arc_value c.args.value) c.args.version p.1 none p.2 c.requires.linked.asks in
@@ -99,8 +81,8 @@ returns-in-Ok-clause-ok c =
     let key = c.args.key.now in
     let groups = items_of c.args.groups.items in
     let placed = c.place.new.records in
-    let p = c.in_ok-place.ensures.ok in
-    let none = absent (kept_at records key) c.contains_key.result c.contains_key.ensures.there c.if-contains_key.false in
+    let p = c.in_ok-user.ensures.ok in
+    let none = none_without_number records key (sym c.in_default.ensures.number) in
     let more : Records = (key, p.0) ∷ [] in
     let lists = pushed_lists records placed key p.0 p.1 p.3 none in
     let there = placed_there records placed key p.0 (arc_value c.args.value) c.args.version p.1 none p.2 c.requires.linked.asks in
@@ -115,8 +97,8 @@ returns-in-Ok-clause-linked c =
     let key = c.args.key.now in
     let groups = items_of c.args.groups.items in
     let placed = c.place.new.records in
-    let p = c.in_ok-place.ensures.ok in
-    let none = absent (kept_at records key) c.contains_key.result c.contains_key.ensures.there c.if-contains_key.false in
+    let p = c.in_ok-user.ensures.ok in
+    let none = none_without_number records key (sym c.in_default.ensures.number) in
     let more : Records = (key, p.0) ∷ [] in
     let lists = pushed_lists records placed key p.0 p.1 p.3 none in
     let there = placed_there records placed key p.0 (arc_value c.args.value) c.args.version p.1 none p.2 c.requires.linked.asks in
@@ -135,7 +117,7 @@ returns-in-Ok-clause-linked c =
 
 pub returns-in-Err-clause-err : goal.returns-in-Err-clause-err
 returns-in-Err-clause-err c =
-    let p = c.in_ok-place.ensures.ok in
+    let p = c.in_ok-user.ensures.ok in
     popped_rows c.args.records.now c.place.new.records c.rewrite-2.new.records c.pop-placed.new.self (c.args.key.now, p.0) c.pop-placed.result c.in-Err.ensures.err.0 p.1 c.pop-placed.ensures.rest c.pop-placed.ensures.found
 
 pub returns-in-Err-clause-linked : goal.returns-in-Err-clause-linked
@@ -144,8 +126,8 @@ returns-in-Err-clause-linked c =
     let key = c.args.key.now in
     let groups = items_of c.args.groups.items in
     let placed = c.place.new.records in
-    let p = c.in_ok-place.ensures.ok in
-    let none = absent (kept_at records key) c.contains_key.result c.contains_key.ensures.there c.if-contains_key.false in
+    let p = c.in_ok-user.ensures.ok in
+    let none = none_without_number records key (sym c.in_default.ensures.number) in
     let more : Records = (key, p.0) ∷ [] in
     let lists = pushed_lists records placed key p.0 p.1 p.3 none in
     let there = placed_there records placed key p.0 (arc_value c.args.value) c.args.version p.1 none p.2 c.requires.linked.asks in
@@ -158,3 +140,8 @@ returns-in-Err-clause-linked c =
     front_linked records placed later front more (option_to_list c.pop-placed.result) p.1 c.pop-placed.ensures.rest e.0
     (popped_rows records placed later front (key, p.0) c.pop-placed.result e.0 p.1 c.pop-placed.ensures.rest c.pop-placed.ensures.found) c.place.ensures.ordered c.in-Err.ensures.numbers c.requires.linked
     (subst (λ (u : Users). SameSets u (users_of later)) (users_put records placed more p.1 lists c.requires.linked) e.1)
+
+pub rewrite-requires-2-clause-numbered : goal.rewrite-requires-2-clause-numbered
+rewrite-requires-2-clause-numbered c =
+    let p = c.in_ok-user.ensures.ok in
+    placed_number c.args.records.now c.place.new.records c.args.key.now p.0 c.in_ok-user.user p.1 c.place.ensures.ordered c.in_ok-user.ensures.number

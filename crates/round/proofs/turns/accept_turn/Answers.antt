@@ -33,14 +33,14 @@ returns-in_ok-ask_group-in-Paused-clause-whole g c =
     let step = rw c.in-Paused.is at c.in_ok-key.ensures.step in
     let same = c.key.ensures ∙ step.0 in
     let o = subst (λ (k : Key). IsOutWith c.args.graph.now c.args.table.now k c.args.turned.asked.answers) (sym same) c.requires.out in
-    asked_whole c.args.graph.now c.args.table.now c.ask_group.new.table c.key.result.now c.args.turned.asked.answers o c.requires.whole c.in_ok-group-in-Paused.group.items c.in_ok-ask_group-in-Paused.ensures.asked c.in_ok-ask_group-in-Paused.ensures.pends
+    asked_whole c.args.graph.now c.args.table.now c.ask_group.new.table c.key.result.now c.args.turned.asked.answers o c.requires.whole c.in-Paused.group.items c.in_ok-ask_group-in-Paused.ensures.asked c.in_ok-ask_group-in-Paused.ensures.pends
 
 pub returns-in_ok-ask_group-in-Paused-clause-keeps : goal.returns-in_ok-ask_group-in-Paused-clause-keeps
 returns-in_ok-ask_group-in-Paused-clause-keeps g c =
     let step = rw c.in-Paused.is at c.in_ok-key.ensures.step in
     let same = c.key.ensures ∙ step.0 in
     let o = subst (λ (k : Key). IsOutWith c.args.graph.now c.args.table.now k c.args.turned.asked.answers) (sym same) c.requires.out in
-    asked_keeps c.args.graph.now c.args.table.now c.ask_group.new.table c.key.result.now c.args.turned.asked.answers o c.requires.whole c.in_ok-group-in-Paused.group.items c.in_ok-ask_group-in-Paused.ensures.asked c.in_ok-ask_group-in-Paused.ensures.pends
+    asked_keeps c.args.graph.now c.args.table.now c.ask_group.new.table c.key.result.now c.args.turned.asked.answers o c.requires.whole c.in-Paused.group.items c.in_ok-ask_group-in-Paused.ensures.asked c.in_ok-ask_group-in-Paused.ensures.pends
 
 pub returns-in_ok-ask_group-in-Paused-clause-back : goal.returns-in_ok-ask_group-in-Paused-clause-back
 returns-in_ok-ask_group-in-Paused-clause-back g c =
@@ -48,8 +48,8 @@ returns-in_ok-ask_group-in-Paused-clause-back g c =
     let same = c.key.ensures ∙ step.0 in
     let o = subst (λ (k : Key). IsOutWith c.args.graph.now c.args.table.now k c.args.turned.asked.answers) (sym same) c.requires.out in
     subst (λ (k : Key). ComesBack c.args.table.now c.ask_group.new.table k) same (
-      asked_back c.args.graph.now c.args.table.now c.ask_group.new.table c.key.result.now c.args.turned.asked.answers o c.requires.whole c.in_ok-group-in-Paused.group.items c.in_ok-ask_group-in-Paused.ensures.asked c.in_ok-ask_group-in-Paused.ensures.pends,
-      asked_turns c.args.graph.now c.args.table.now c.ask_group.new.table c.key.result.now c.args.turned.asked.answers o c.requires.whole c.in_ok-group-in-Paused.group.items c.in_ok-ask_group-in-Paused.ensures.asked c.in_ok-ask_group-in-Paused.ensures.pends,
+      asked_back c.args.graph.now c.args.table.now c.ask_group.new.table c.key.result.now c.args.turned.asked.answers o c.requires.whole c.in-Paused.group.items c.in_ok-ask_group-in-Paused.ensures.asked c.in_ok-ask_group-in-Paused.ensures.pends,
+      asked_turns c.args.graph.now c.args.table.now c.ask_group.new.table c.key.result.now c.args.turned.asked.answers o c.requires.whole c.in-Paused.group.items c.in_ok-ask_group-in-Paused.ensures.asked c.in_ok-ask_group-in-Paused.ensures.pends,
     )
 
 pub returns-in_ok-ask_group-in-Paused-clause-truth : goal.returns-in_ok-ask_group-in-Paused-clause-truth
@@ -58,8 +58,8 @@ returns-in_ok-ask_group-in-Paused-clause-truth g c = λ read laws past cs t.
     let same = c.key.ensures ∙ step.0 in
     let o = subst (λ (k : Key). IsOutWith c.args.graph.now c.args.table.now k c.args.turned.asked.answers) (sym same) c.requires.out in
     subst (λ (k : Key). IsTrueOf g.R.Rules.next read past (Back k ∷ cs) c.args.graph.now c.ask_group.new.table.nodes c.ask_group.new.table.runs.items) same
-    (asked_true c.args.graph.now c.args.table.now c.ask_group.new.table c.key.result.now c.args.turned.asked.answers o c.requires.whole c.in_ok-group-in-Paused.group.items c.in_ok-ask_group-in-Paused.ensures.asked c.in_ok-ask_group-in-Paused.ensures.pends
-    g.R.Rules.next (ap (λ (k : Key). g.R.Rules.next k c.args.turned.asked.answers) same ∙ step.2 ∙ ap (λ group. Ask group) (sym (c.in_ok-group-in-Paused.ensures ∙ c.group.ensures))) read laws past cs t)
+    (asked_true c.args.graph.now c.args.table.now c.ask_group.new.table c.key.result.now c.args.turned.asked.answers o c.requires.whole c.in-Paused.group.items c.in_ok-ask_group-in-Paused.ensures.asked c.in_ok-ask_group-in-Paused.ensures.pends
+    g.R.Rules.next (ap (λ (k : Key). g.R.Rules.next k c.args.turned.asked.answers) same ∙ step.2) read laws past cs t)
 
 pub returns-in_ok-ask_group-in-Paused-clause-frame : goal.returns-in_ok-ask_group-in-Paused-clause-frame
 returns-in_ok-ask_group-in-Paused-clause-frame g c =
@@ -67,7 +67,7 @@ returns-in_ok-ask_group-in-Paused-clause-frame g c =
     let same = c.key.ensures ∙ step.0 in
     let o = subst (λ (k : Key). IsOutWith c.args.graph.now c.args.table.now k c.args.turned.asked.answers) (sym same) c.requires.out in
     subst (λ (k : Key). KeepsOthersBut k c.args.graph.now c.args.graph.now c.args.table.now c.ask_group.new.table) same
-    (frame_asked c.args.graph.now c.args.table.now c.ask_group.new.table c.key.result.now o.node c.in_ok-group-in-Paused.group.items o.there (out_no_turn o.node o.out) c.in_ok-ask_group-in-Paused.ensures.asked)
+    (frame_asked c.args.graph.now c.args.table.now c.ask_group.new.table c.key.result.now o.node c.in-Paused.group.items o.there (out_no_turn o.node o.out) c.in_ok-ask_group-in-Paused.ensures.asked)
 
 pub returns-in_ok-ask_group-in-Paused-clause-paused : goal.returns-in_ok-ask_group-in-Paused-clause-paused
 returns-in_ok-ask_group-in-Paused-clause-paused g c =
@@ -75,7 +75,7 @@ returns-in_ok-ask_group-in-Paused-clause-paused g c =
     let same = c.key.ensures ∙ step.0 in
     let o = subst (λ (k : Key). IsOutWith c.args.graph.now c.args.table.now k c.args.turned.asked.answers) (sym same) c.requires.out in
     subst (λ (k : Key). IsPaused c.args.graph.now c.ask_group.new.table k c.in-Paused.waiting) same
-    (asked_paused c.args.graph.now c.args.table.now c.ask_group.new.table c.key.result.now c.args.turned.asked.answers o c.in_ok-group-in-Paused.group.items c.in_ok-ask_group-in-Paused.ensures.asked c.in-Paused.waiting (sym c.key.ensures) step.1)
+    (asked_paused c.args.graph.now c.args.table.now c.ask_group.new.table c.key.result.now c.args.turned.asked.answers o c.in-Paused.group.items c.in_ok-ask_group-in-Paused.ensures.asked c.in-Paused.waiting (sym c.key.ensures) step.1)
 
 pub returns-in_ok-finish_node-in-Done-clause-frame : goal.returns-in_ok-finish_node-in-Done-clause-frame
 returns-in_ok-finish_node-in-Done-clause-frame g c =
