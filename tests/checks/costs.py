@@ -1,5 +1,6 @@
-"""The costs of lines that are at a limit: seconds, most memory and the last answer, of which only
-the answer is compared. `--only TEXT` takes the lines that have this text in their names."""
+"""The costs of lines that are at a limit: seconds, most memory and the last answer, of which the
+answer is compared, and the memory with the most that a loader may take. `--only TEXT` takes the
+lines that have this text in their names."""
 
 import json
 from collections.abc import Callable
@@ -15,6 +16,8 @@ MAX_DEPTH = 125
 GLOBBING = 'filegroup(name = "t", srcs = glob(["*"]))\n'
 # A longer answer is told by what it counts.
 MAX_ANSWER = 200
+# The most memory of a loader that answers, in MB.
+MOST_MEMORY = 300
 
 
 def deep_tree() -> list[Command]:
@@ -170,6 +173,10 @@ COSTS: dict[str, tuple[Callable[[], list[Command]], str]] = {
         lambda: calling("    for i in range(20000): x = [0] * 65536\n"),
         one("s"),
     ),
+    "20,000,000 tuples that nothing reaches": (
+        lambda: calling("    for i in range(300): x = enumerate([0] * 65536)\n"),
+        one("s"),
+    ),
     "2,000 lists in one expression, none of them reached": (
         lambda: calling("    x = [" + "len([0] * 65536), " * 2000 + "]\n"),
         one("s"),
@@ -210,5 +217,7 @@ def run(context: Context) -> Report:
             last = summary(ran, len(made))
             print(f"  {name:52s}{took:8.2f} s{most:8.0f} MB   {last[:80]}", flush=True)
             wrong = None if last == wanted else f"{name}: {last[:200]} and not {wanted}"
+            if wrong is None and not ran.status and most > MOST_MEMORY:
+                wrong = f"{name}: {most:.0f} MB, and at most {MOST_MEMORY} are allowed"
             report.add(wrong, compared=1)
     return report

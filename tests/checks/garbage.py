@@ -13,8 +13,12 @@ from harness.commands import lines_of_commands, load, module, put
 from harness.context import Context
 from harness.report import Report, compare_each
 
-# c(v) is v, after lists of 40 MiB. Each call of s makes another string.
-MAKES = "def c(v):\n    for i in range(40):\n        x = [0] * 65536\n    return v\n"
+# c(v) is v, after lists of 40 MiB and as many tuples as are in some hundred pages of the heap. Each
+# call of s makes another string.
+MAKES = (
+    "def c(v):\n    for i in range(40):\n        x = [0] * 65536\n"
+    "        y = enumerate(range(2600))\n    return v\n"
+)
 MAKES_NONE = "def c(v):\n    return v\n"
 SHARED = """def s(v):
     return v + "-" + str(len(v))

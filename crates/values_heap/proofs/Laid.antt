@@ -11,7 +11,7 @@ use Rattle.values_heap.specs.Standings.{laid_by, InOrder, among_own, among_lent,
 
 -- ---- lists
 
-get_left : {A : Type 0} (xs ys : List A) (i : ℕ) → i < length xs → slice_get (xs ++ ys) i ≡ slice_get xs i
+pub get_left : {A : Type 0} (xs ys : List A) (i : ℕ) → i < length xs → slice_get (xs ++ ys) i ≡ slice_get xs i
 get_left [] ys i h = absurd (omega (arith, h))
 get_left (x ∷ xs) ys zero h = refl
 get_left (x ∷ xs) ys (suc i) h = get_left xs ys i (omega (arith, h))
@@ -36,7 +36,7 @@ get_take (suc n) (x ∷ xs) zero h = refl
 get_take (suc n) (x ∷ xs) (suc i) h = get_take n xs i (omega (arith, h))
 
 -- at a place of the second of two lists
-get_behind : {A : Type 0} (xs ys : List A) (n i : ℕ) → length xs ≡ n → n ≤ i → slice_get (xs ++ ys) i ≡ slice_get ys (i - n)
+pub get_behind : {A : Type 0} (xs ys : List A) (n i : ℕ) → length xs ≡ n → n ≤ i → slice_get (xs ++ ys) i ≡ slice_get ys (i - n)
 get_behind xs ys n i e h = ap (slice_get (xs ++ ys)) (omega (arith, e, h)) ∙ get_right xs ys (i - n)
 
 -- what is between two numbers has this many members, where the list is long enough

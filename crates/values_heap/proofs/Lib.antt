@@ -4,6 +4,8 @@ pub mod Standing
 pub mod Laid
 pub mod Lent
 pub mod Places
+pub mod WholePages
+pub mod PagedObjects
 pub mod Halving
 pub mod Consecutive
 pub mod OwnObjects

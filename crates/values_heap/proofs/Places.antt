@@ -11,7 +11,7 @@ use Rattle.values_heap.specs.MemoryUse.{object_bytes}
 use Rattle.values_heap.specs.Reclamation.{standing_bytes, counted_bytes, bytes_while}
 use Rattle.values_heap.specs.declared.object.Object.{Object}
 use Rattle.values_heap.specs.declared.objects.Range.{Range}
-use Rattle.values_heap.specs.Standings.{Standing, own, standing_of, has_gone, is_gone, is_lent, stays, laid, laid_by, InOrder, range_standings, where_is, found_there, own_number, among_lent, lent_at}
+use Rattle.values_heap.specs.Standings.{Standing, own, standing_of, is_gone, is_lent, stays, laid, laid_by, InOrder, range_standings, where_is, found_there, own_number, among_lent, lent_at}
 use Rattle.values_frozen_objects.specs.Shift.{moved, moved_val, moved_pair}
 use Rattle.values_frozen_objects.specs.Objects.{frozen_obj}
 use Rattle.values_frozen_objects.specs.declared.object.FrozenObject.{FrozenObject}
@@ -40,86 +40,59 @@ told rs os ps e =
 pub written : (rs : List Range) (n from l : ℕ) (os : List Standing) → n ≡ length os → InOrder rs 0 0 n from l → (place i : ℕ) (x : Standing) → own_number (where_is rs 0 place) ≡ Some i → laid rs (set os i x) ≡ set (laid rs os) place x
 written rs n from l os e h place i x w = laid_set range_standings as_long rs 0 0 n from l os e h place i x (ap (λ p. own_number (where_is rs 0 p)) (omega arith) ∙ w)
 
--- ---- what is in memory
-
-pub map_written : (xs : List HeapObject) → map object_in (map standing_of xs) ≡ map written_object xs
-unfolding object_in
-map_written [] = refl
-map_written (x ∷ xs) = ap (λ l. written_object x ∷ l) (map_written xs)
+-- ---- what is found
 
 -- what was found at a place is an object
-abbrev pub spot_object : List HeapObject → Spot → Option Obj
-spot_object objects (s.Own i) = option_map written_object (slice_get objects i)
+abbrev pub spot_object : List Standing → Spot → Option Obj
+spot_object objects (s.Own i) = slice_get (map object_in objects) i
 spot_object objects (s.Lent found base) = option_map (λ o. moved base (frozen_obj o.now)) found
 
-found_object : (objects : List HeapObject) (spot : Spot) → option_map object_in (sought (map standing_of objects) spot) ≡ spot_object objects spot
+found_object : (objects : List Standing) (spot : Spot) → option_map object_in (sought objects spot) ≡ spot_object objects spot
 unfolding object_in
-found_object objects (s.Own i) = ap (option_map object_in) (slice_get-map standing_of objects i) ∙ own_object (slice_get objects i)
-  where
-    own_object : (h : Option HeapObject) → option_map object_in (option_map standing_of h) ≡ option_map written_object h
-    own_object (Some h) = refl
-    own_object None = refl
+found_object objects (s.Own i) = sym (slice_get-map object_in objects i)
 found_object objects (s.Lent (Some o) base) = refl
 found_object objects (s.Lent None base) = refl
 
-pub seen : (rs : List Range) (n from l : ℕ) (objects : List HeapObject) → n ≡ length objects → InOrder rs 0 0 n from l → (place : ℕ) (spot : Spot) → ((os : List Standing) → sought os spot ≡ found_there range_standings os (where_is rs 0 place)) → slice_get (map object_in (laid rs (map standing_of objects))) place ≡ spot_object objects spot
-seen rs n from l objects e h place spot is =
-    slice_get-map object_in (laid rs (map standing_of objects)) place
-    ∙ ap (option_map object_in) (stands rs n from l (map standing_of objects) (e ∙ sym (length-map objects standing_of)) h place ∙ sym (is (map standing_of objects)))
+pub seen : (rs : List Range) (from l : ℕ) (objects : List Standing) → InOrder rs 0 0 (length objects) from l → (place : ℕ) (spot : Spot) → ((os : List Standing) → sought os spot ≡ found_there range_standings os (where_is rs 0 place)) → slice_get (map object_in (laid rs objects)) place ≡ spot_object objects spot
+seen rs from l objects h place spot is =
+    slice_get-map object_in (laid rs objects) place
+    ∙ ap (option_map object_in) (stands rs (length objects) from l objects refl h place ∙ sym (is objects))
     ∙ found_object objects spot
 
--- an own object that is found and has gone
-pub gone : (rs : List Range) (n from l : ℕ) (objects : List HeapObject) → n ≡ length objects → InOrder rs 0 0 n from l → (place i : ℕ) → ((os : List Standing) → sought os (s.Own i) ≡ found_there range_standings os (where_is rs 0 place)) → option_map has_gone (slice_get objects i) ≡ Some true → option_map is_gone (slice_get (laid rs (map standing_of objects)) place) ≡ Some true
-gone rs n from l objects e h place i is g =
-    ap (option_map is_gone) (stands rs n from l (map standing_of objects) (e ∙ sym (length-map objects standing_of)) h place ∙ sym (is (map standing_of objects)) ∙ slice_get-map standing_of objects i)
-    ∙ at (slice_get objects i) g
-  where
-    at : (h : Option HeapObject) → option_map has_gone h ≡ Some true → option_map is_gone (option_map standing_of h) ≡ Some true
-    at (Some h) g = g
-    at None g = g
+-- what is there of an own object that is found
+pub own_there : (rs : List Range) (from l : ℕ) (objects : List Standing) → InOrder rs 0 0 (length objects) from l → (place i : ℕ) → ((os : List Standing) → sought os (s.Own i) ≡ found_there range_standings os (where_is rs 0 place)) → slice_get (laid rs objects) place ≡ slice_get objects i
+own_there rs from l objects h place i is = stands rs (length objects) from l objects refl h place ∙ sym (is objects)
 
-gone_stays : (o : Option Standing) → option_map is_gone o ≡ Some true → option_map stays o ≡ Some true
+pub gone_stays : (o : Option Standing) → option_map is_gone o ≡ Some true → option_map stays o ≡ Some true
 gone_stays (Some x) g = ap (λ (b : Option Bool). or_lent b) g
   where
     or_lent : Option Bool → Option Bool
     or_lent o = option_map (λ b. b || is_lent x) o
 gone_stays None g = cc
 
-pub gone_kept : (rs : List Range) (n from l : ℕ) (objects : List HeapObject) → n ≡ length objects → InOrder rs 0 0 n from l → (place i : ℕ) → ((os : List Standing) → sought os (s.Own i) ≡ found_there range_standings os (where_is rs 0 place)) → option_map has_gone (slice_get objects i) ≡ Some true → option_map stays (slice_get (laid rs (map standing_of objects)) place) ≡ Some true
-gone_kept rs n from l objects e h place i is g = gone_stays (slice_get (laid rs (map standing_of objects)) place) (gone rs n from l objects e h place i is g)
+-- what is there of an attached object that is found
+pub lent_there : (rs : List Range) (from l : ℕ) (objects : List Standing) → InOrder rs 0 0 (length objects) from l → (place base : ℕ) (o : Bor FrozenObject) → ((os : List Standing) → sought os (s.Lent (Some o) base) ≡ found_there range_standings os (where_is rs 0 place)) → slice_get (laid rs objects) place ≡ Some (lent_at base (frozen_obj o.now))
+lent_there rs from l objects h place base o is = stands rs (length objects) from l objects refl h place ∙ sym (is objects)
 
-pub lent_kept : (rs : List Range) (n from l : ℕ) (objects : List HeapObject) → n ≡ length objects → InOrder rs 0 0 n from l → (place base : ℕ) (o : Bor FrozenObject) → ((os : List Standing) → sought os (s.Lent (Some o) base) ≡ found_there range_standings os (where_is rs 0 place)) → option_map stays (slice_get (laid rs (map standing_of objects)) place) ≡ Some true
-lent_kept rs n from l objects e h place base o is =
-    ap (option_map stays) (stands rs n from l (map standing_of objects) (e ∙ sym (length-map objects standing_of)) h place ∙ sym (is (map standing_of objects)))
-
-pub lent_there : (rs : List Range) (n from l : ℕ) (objects : List HeapObject) → n ≡ length objects → InOrder rs 0 0 n from l → (place base : ℕ) (o : Bor FrozenObject) → ((os : List Standing) → sought os (s.Lent (Some o) base) ≡ found_there range_standings os (where_is rs 0 place)) → option_map is_lent (slice_get (laid rs (map standing_of objects)) place) ≡ Some true
-lent_there rs n from l objects e h place base o is =
-    ap (option_map is_lent) (stands rs n from l (map standing_of objects) (e ∙ sym (length-map objects standing_of)) h place ∙ sym (is (map standing_of objects)))
-
--- ---- changes in memory
-
-pub told_same : (rs : List Range) (xs ys : List HeapObject) → map written_object ys ≡ map written_object xs → map object_in (laid rs (map standing_of ys)) ≡ map object_in (laid rs (map standing_of xs))
-told_same rs xs ys e = told rs (map standing_of ys) (map standing_of xs) (map_written ys ∙ e ∙ sym (map_written xs))
+-- ---- changes
 
 -- another object in the place of an own one
-pub told_put : (rs : List Range) (n from l : ℕ) (xs ys : List HeapObject) → n ≡ length xs → InOrder rs 0 0 n from l → (place i : ℕ) (x : Obj) → own_number (where_is rs 0 place) ≡ Some i → map written_object ys ≡ set (map written_object xs) i x → map object_in (laid rs (map standing_of ys)) ≡ set (map object_in (laid rs (map standing_of xs))) place x
+pub told_put : (rs : List Range) (from l : ℕ) (xs ys : List Standing) → InOrder rs 0 0 (length xs) from l → (place i : ℕ) (x : Obj) → own_number (where_is rs 0 place) ≡ Some i → map object_in ys ≡ set (map object_in xs) i x → map object_in (laid rs ys) ≡ set (map object_in (laid rs xs)) place x
 unfolding object_in
-told_put rs n from l xs ys e h place i x w is =
-    told rs (map standing_of ys) (set (map standing_of xs) i (own x false)) (map_written ys ∙ is ∙ ap (λ l. set l i x) (sym (map_written xs)) ∙ sym (map-set object_in (map standing_of xs) i (own x false)))
-    ∙ ap (map object_in) (written rs n from l (map standing_of xs) (e ∙ sym (length-map xs standing_of)) h place i (own x false) w)
-    ∙ map-set object_in (laid rs (map standing_of xs)) place (own x false)
+told_put rs from l xs ys h place i x w is =
+    told rs ys (set xs i (own x false)) (is ∙ sym (map-set object_in xs i (own x false)))
+    ∙ ap (map object_in) (written rs (length xs) from l xs refl h place i (own x false) w)
+    ∙ map-set object_in (laid rs xs) place (own x false)
 
 -- one object more
-pub pushed : (rs : List Range) (n from l : ℕ) (xs : List HeapObject) (y : HeapObject) → n ≡ length xs → InOrder rs 0 0 n from l → laid rs (map standing_of (xs ++ y ∷ [])) ≡ laid rs (map standing_of xs) ++ standing_of y ∷ []
-pushed rs n from l xs y e h =
-    ap (laid rs) (map-append standing_of xs (y ∷ [])) ∙ laid_pushed range_standings rs 0 0 n from l (map standing_of xs) (standing_of y ∷ []) (e ∙ sym (length-map xs standing_of)) h
+pub pushed : (rs : List Range) (from l : ℕ) (xs : List Standing) (y : Standing) → InOrder rs 0 0 (length xs) from l → laid rs (xs ++ y ∷ []) ≡ laid rs xs ++ y ∷ []
+pushed rs from l xs y h = laid_pushed range_standings rs 0 0 (length xs) from l xs (y ∷ []) refl h
 
 -- and a range
-pub range_lent : (rs : List Range) (r : Range) (n from l : ℕ) (xs : List HeapObject) → n ≡ length xs → InOrder rs 0 0 n from l → r.start ≡ n + l → laid (rs ++ r ∷ []) (map standing_of xs) ≡ laid rs (map standing_of xs) ++ map (lent_at (length (laid rs (map standing_of xs)))) (arc_value r.objects)
-range_lent rs r n from l xs e h start =
-    let m = e ∙ sym (length-map xs standing_of) in
-    laid_lent range_standings rs r 0 0 n from l (map standing_of xs) m h start
-    ∙ ap (λ b. laid rs (map standing_of xs) ++ map (lent_at b) (arc_value r.objects)) (start ∙ all_places rs n from l (map standing_of xs) m h)
+pub range_lent : (rs : List Range) (r : Range) (from l : ℕ) (xs : List Standing) → InOrder rs 0 0 (length xs) from l → r.start ≡ length xs + l → laid (rs ++ r ∷ []) xs ≡ laid rs xs ++ map (lent_at (length (laid rs xs))) (arc_value r.objects)
+range_lent rs r from l xs h start =
+    laid_lent range_standings rs r 0 0 (length xs) from l xs refl h start
+    ∙ ap (λ b. laid rs xs ++ map (lent_at b) (arc_value r.objects)) (start ∙ all_places rs (length xs) from l xs refl h)
 
 -- ---- what a search in memory has found
 
@@ -130,33 +103,27 @@ Finds rs from l place spot = (number : ℕ) → InOrder rs 0 0 number from l →
 abbrev pub Numbers : List Range → (from l place : ℕ) → Spot → Type 0
 Numbers rs from l place spot = (number : ℕ) → InOrder rs 0 0 number from l → sought_number spot ≡ own_number (where_is rs 0 place)
 
-pub seen_now : (objects : List HeapObject) (rs read : List Range) (from l place : ℕ) (spot : Spot) (now : List Standing) → laid rs (map standing_of objects) ≡ now → InOrder rs 0 0 (length objects) from l → read ≡ rs → Finds read from l place spot → slice_get (map object_in now) place ≡ spot_object objects spot
+pub seen_now : (objects : List Standing) (rs read : List Range) (from l place : ℕ) (spot : Spot) (now : List Standing) → laid rs objects ≡ now → InOrder rs 0 0 (length objects) from l → read ≡ rs → Finds read from l place spot → slice_get (map object_in now) place ≡ spot_object objects spot
 seen_now objects rs read from l place spot now v h e f =
-    ap (λ w. slice_get (map object_in w) place) (sym v) ∙ seen rs (length objects) from l objects refl h place spot (subst (λ rs. Finds rs from l place spot) e f (length objects) h)
+    ap (λ w. slice_get (map object_in w) place) (sym v) ∙ seen rs from l objects h place spot (subst (λ rs. Finds rs from l place spot) e f (length objects) h)
 
-pub gone_now : (objects : List HeapObject) (rs read : List Range) (from l place i : ℕ) (now : List Standing) → laid rs (map standing_of objects) ≡ now → InOrder rs 0 0 (length objects) from l → read ≡ rs → Finds read from l place (s.Own i) → (xs : List HeapObject) → xs ≡ objects → option_map has_gone (slice_get xs i) ≡ Some true → option_map is_gone (slice_get now place) ≡ Some true
-gone_now objects rs read from l place i now v h e f xs same g =
-    ap (λ w. option_map is_gone (slice_get w place)) (sym v)
-    ∙ gone rs (length objects) from l objects refl h place i (subst (λ rs. Finds rs from l place (s.Own i)) e f (length objects) h) (ap (λ ys. option_map has_gone (slice_get ys i)) (sym same) ∙ g)
+pub own_now : (objects : List Standing) (rs read : List Range) (from l place i : ℕ) (now : List Standing) → laid rs objects ≡ now → InOrder rs 0 0 (length objects) from l → read ≡ rs → Finds read from l place (s.Own i) → slice_get now place ≡ slice_get objects i
+own_now objects rs read from l place i now v h e f =
+    ap (λ w. slice_get w place) (sym v) ∙ own_there rs from l objects h place i (subst (λ rs. Finds rs from l place (s.Own i)) e f (length objects) h)
 
-pub gone_kept_now : (objects : List HeapObject) (rs read : List Range) (from l place i : ℕ) (now : List Standing) → laid rs (map standing_of objects) ≡ now → InOrder rs 0 0 (length objects) from l → read ≡ rs → Finds read from l place (s.Own i) → option_map has_gone (slice_get objects i) ≡ Some true → option_map stays (slice_get now place) ≡ Some true
-gone_kept_now objects rs read from l place i now v h e f g =
-    ap (λ w. option_map stays (slice_get w place)) (sym v)
-    ∙ gone_kept rs (length objects) from l objects refl h place i (subst (λ rs. Finds rs from l place (s.Own i)) e f (length objects) h) g
+pub lent_now : (objects : List Standing) (rs read : List Range) (from l place base : ℕ) (o : Bor FrozenObject) (now : List Standing) → laid rs objects ≡ now → InOrder rs 0 0 (length objects) from l → read ≡ rs → Finds read from l place (s.Lent (Some o) base) → slice_get now place ≡ Some (lent_at base (frozen_obj o.now))
+lent_now objects rs read from l place base o now v h e f =
+    ap (λ w. slice_get w place) (sym v) ∙ lent_there rs from l objects h place base o (subst (λ rs. Finds rs from l place (s.Lent (Some o) base)) e f (length objects) h)
 
-pub lent_kept_now : (objects : List HeapObject) (rs read : List Range) (from l place base : ℕ) (o : Bor FrozenObject) (now : List Standing) → laid rs (map standing_of objects) ≡ now → InOrder rs 0 0 (length objects) from l → read ≡ rs → Finds read from l place (s.Lent (Some o) base) → option_map stays (slice_get now place) ≡ Some true
-lent_kept_now objects rs read from l place base o now v h e f =
-    ap (λ w. option_map stays (slice_get w place)) (sym v)
-    ∙ lent_kept rs (length objects) from l objects refl h place base o (subst (λ rs. Finds rs from l place (s.Lent (Some o) base)) e f (length objects) h)
+pub nothing_now : (objects : List Standing) (rs read : List Range) (from l place base : ℕ) (now : List Standing) → laid rs objects ≡ now → InOrder rs 0 0 (length objects) from l → read ≡ rs → Finds read from l place (s.Lent None base) → slice_get now place ≡ None
+nothing_now objects rs read from l place base now v h e f =
+    ap (λ w. slice_get w place) (sym v)
+    ∙ stands rs (length objects) from l objects refl h place
+    ∙ sym (subst (λ rs. Finds rs from l place (s.Lent None base)) e f (length objects) h objects)
 
-pub lent_there_now : (objects : List HeapObject) (rs read : List Range) (from l place base : ℕ) (o : Bor FrozenObject) (now : List Standing) → laid rs (map standing_of objects) ≡ now → InOrder rs 0 0 (length objects) from l → read ≡ rs → Finds read from l place (s.Lent (Some o) base) → option_map is_lent (slice_get now place) ≡ Some true
-lent_there_now objects rs read from l place base o now v h e f =
-    ap (λ w. option_map is_lent (slice_get w place)) (sym v)
-    ∙ lent_there rs (length objects) from l objects refl h place base o (subst (λ rs. Finds rs from l place (s.Lent (Some o) base)) e f (length objects) h)
-
-pub put_now : (objects changed : List HeapObject) (rs read : List Range) (from l place i : ℕ) (x : Obj) (now : List Standing) → laid rs (map standing_of objects) ≡ now → InOrder rs 0 0 (length objects) from l → read ≡ rs → Numbers read from l place (s.Own i) → map written_object changed ≡ set (map written_object objects) i x → map object_in (laid rs (map standing_of changed)) ≡ set (map object_in now) place x
+pub put_now : (objects changed : List Standing) (rs read : List Range) (from l place i : ℕ) (x : Obj) (now : List Standing) → laid rs objects ≡ now → InOrder rs 0 0 (length objects) from l → read ≡ rs → Numbers read from l place (s.Own i) → map object_in changed ≡ set (map object_in objects) i x → map object_in (laid rs changed) ≡ set (map object_in now) place x
 put_now objects changed rs read from l place i x now v h e f is =
-    told_put rs (length objects) from l objects changed refl h place i x (sym (subst (λ rs. Numbers rs from l place (s.Own i)) e f (length objects) h)) is ∙ ap (λ w. set (map object_in w) place x) v
+    told_put rs from l objects changed h place i x (sym (subst (λ rs. Numbers rs from l place (s.Own i)) e f (length objects) h)) is ∙ ap (λ w. set (map object_in w) place x) v
 
 -- nothing is put where nothing is
 pub put_nothing : (xs : List Obj) (i : ℕ) (x : Obj) → slice_get xs i ≡ None → xs ≡ set xs i x

@@ -11,3 +11,5 @@ pub mod Standings
 pub mod Own
 pub mod Held
 pub mod Sought
+pub mod Wholes
+pub mod Pages

@@ -1,5 +1,5 @@
 -- The bytes that are charged for an evaluation's values.
-use Rattle.std.specs.Prelude.{◌≡◌, ℕ, ◌+◌, ◌*◌, ◌<◌, ◌≤◌, length, Option, Some, None, Result, Ok, Err}
+use Rattle.std.specs.Prelude.{◌≡◌, ◌⊎◌, ℕ, ◌+◌, ◌*◌, ◌<◌, ◌≤◌, length, Option, Some, None, Result, Ok, Err}
 use Rattle.values_semantics.specs.Heap.{Obj, text, list, tuple, dict, function, Store, at}
 use Rattle.values_heap.specs.declared.object.Shape.{Shape}
 use Rattle.values_heap.specs.declared.object.Shape.TheVariants as sh
@@ -38,3 +38,9 @@ abbrev pub Counted : {A : Type 0} → ℕ → ℕ → Result A Halt → ℕ → 
 Counted bytes before (Ok _) after = (after ≡ before + bytes) × (after ≤ most_held)
 Counted bytes before (Err (Memory _)) after = (most_held < before + bytes) × (after ≡ before)
 Counted bytes before (Err (Code _)) after = ⊥
+
+-- the same, where the call also fails if what is charged for has been freed
+abbrev pub CountedUnless : {A : Type 0} → (IsGone : Type 0) → ℕ → ℕ → Result A Halt → ℕ → Type 0
+CountedUnless IsGone bytes before (Ok _) after = (after ≡ before + bytes) × (after ≤ most_held)
+CountedUnless IsGone bytes before (Err (Memory _)) after = ((most_held < before + bytes) ⊎ IsGone) × (after ≡ before)
+CountedUnless IsGone bytes before (Err (Code _)) after = ⊥

@@ -32,6 +32,12 @@ standing_bytes (Some (own object gone)) = if gone then 0 else object_bytes objec
 standing_bytes (Some (lent object)) = 0
 standing_bytes None = 0
 
--- the same, of an own object by its number among these
+-- the bytes of a copy of what is at a place: what has been freed counts for nothing
+abbrev pub copy_bytes : Option Standing → ℕ
+copy_bytes (Some (own object gone)) = if gone then 0 else object_bytes object
+copy_bytes (Some (lent object)) = object_bytes object
+copy_bytes None = 0
+
+-- the bytes of an own object, by its number among these: what is attached has none
 abbrev pub bytes_of_own : List Standing → (number : ℕ) → ℕ
 bytes_of_own objects number = standing_bytes (slice_get (filter is_own objects) number)

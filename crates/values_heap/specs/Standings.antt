@@ -39,6 +39,10 @@ has_gone h = is_none h.object
 abbrev pub standing_of : HeapObject → Standing
 standing_of h = own (written_object h) (has_gone h)
 
+-- an own object that has been freed
+abbrev pub gone_own : Obj → Standing
+gone_own object = own object true
+
 -- an object that is attached, where this many objects are before the first of its range
 abbrev pub lent_at : ℕ → Obj → Standing
 lent_at start object = lent (moved start object)

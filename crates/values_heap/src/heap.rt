@@ -1,13 +1,13 @@
 //! The heap.
-ghost use Rattle.std.specs.Prelude.{◌≡◌, [], length, option_map, IfOk, OnOk, OnErr, ◌+◌, ◌*◌, ◌-◌, ◌≤◌, nat_le};
+ghost use Rattle.std.specs.Prelude.{◌≡◌, [], length, option_map, slice_get, IfOk, OnOk, OnErr, ◌+◌, ◌*◌, ◌-◌, ◌≤◌, nat_le};
 ghost use Rattle.values_semantics.specs.Outcome.{gives};
 ghost use Rattle.values_semantics.specs.Heap.{at, puts, makes, makes_text, makes_list, makes_tuple, makes_dict};
 ghost use Rattle.values_heap.specs.Objects.{object_of};
 ghost use Rattle.values_heap.specs.Looks.{seen_object};
 ghost use Rattle.std.specs.Arc.{arc_value};
 ghost use Rattle.values_heap.specs.View.{store_of, lends, Says};
-ghost use Rattle.values_heap.specs.Reclamation.{IsGone, IsLent, IsKept};
-ghost use Rattle.values_heap.specs.MemoryUse.{most_held, object_bytes, place_bytes, Counted};
+ghost use Rattle.values_heap.specs.Reclamation.{IsGone, IsLent, IsKept, copy_bytes};
+ghost use Rattle.values_heap.specs.MemoryUse.{most_held, object_bytes, place_bytes, Counted, CountedUnless};
 
 use crate::halt::Halt;
 use crate::object::{ENTRY, MEMBER, Object, shape_of, size_of};
@@ -138,14 +138,14 @@ impl Heap {
     }
 
     /// Puts off the next collection until twice as many bytes are allocated as now, and at least `FIRST_FULL`. A
-    /// collection visits the places of all own objects that were ever made, so the threshold also grows by some bytes
+    /// collection visits the places of all own objects whose page has memory, so the threshold also grows by some bytes
     /// for each of them.
-    pub(crate) fn set_threshold(&mut self)
+    pub(crate) fn set_threshold(&mut self, places: usize)
         ensures same { store_of self.new ≡ store_of self.old }
         ensures held { self.new.held ≡ self.old.held }
     {
-        let places = (self.objects.own_len() as u64).saturating_mul(BYTES_A_PLACE);
-        let by_places = self.held.saturating_add(places).min(MAX_BY_PLACES);
+        let visit = (places as u64).saturating_mul(BYTES_A_PLACE);
+        let by_places = self.held.saturating_add(visit).min(MAX_BY_PLACES);
         self.full_at = self.held.saturating_mul(2).max(FIRST_FULL).max(by_places);
     }
 
@@ -168,24 +168,26 @@ impl Heap {
         self.charge(ENTRY)
     }
 
-    /// Charges the copy that a loop iterates over of what is at a place, as `charge_members` does.
+    /// Charges the copy that a loop iterates over of what is at a place, as `charge_members` does. Returns `Memory`, and
+    /// charges nothing, also if what is there has been freed.
     pub fn charge_copy(&mut self, place: usize) -> Result<(), Halt>
         ensures same { store_of self.new ≡ store_of self.old }
-        ensures counted { Counted (place_bytes place (store_of self.old)) self.old.held result
-            self.new.held }
+        ensures counted { CountedUnless (IsGone self.old.objects place) (place_bytes place
+            (store_of self.old)) self.old.held result self.new.held }
     {
-        let bytes = self.size_at(place);
+        let bytes = self.objects.size_at(place)?;
         self.charge(bytes)
     }
 
-    /// Refunds the copy that a loop iterated over. The object at the place must have kept its size since `charge_copy`;
-    /// otherwise the count is wrong, and nothing but the count.
+    /// Refunds the copy that a loop iterated over. The object at the place must have kept its size since `charge_copy`,
+    /// and must not have been freed; otherwise the count is wrong, and nothing but the count.
     pub fn refund_copy(&mut self, place: usize)
         ensures same { store_of self.new ≡ store_of self.old }
-        ensures counted { self.new.held ≡ self.old.held - place_bytes place (store_of self.old) }
+        ensures counted { self.new.held ≡ self.old.held - copy_bytes (slice_get self.old.objects place) }
     {
-        let bytes = self.size_at(place);
-        self.release(bytes);
+        if let Ok(bytes) = self.objects.size_at(place) {
+            self.release(bytes);
+        }
     }
 
     // Refunds bytes.
@@ -195,13 +197,6 @@ impl Heap {
         ensures kept { self.new.objects ≡ self.old.objects }
     {
         self.held = (self.held as u128).saturating_sub(bytes) as u64;
-    }
-
-    // Returns the bytes that the object at a place counts for.
-    fn size_at(&self, place: usize) -> u128
-        ensures { result ≡ place_bytes place (store_of self.now) }
-    {
-        self.objects.size_at(place)
     }
 
     /// Makes an object. Returns `Memory` also if the objects would take more than `MAX_BYTES` bytes.

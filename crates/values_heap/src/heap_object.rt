@@ -1,11 +1,11 @@
 //! Objects as they are on the heap.
-ghost use Rattle.std.specs.Prelude.{◌≡◌, IfOk, OnErr, None, is_none, false};
+ghost use Rattle.std.specs.Prelude.{◌≡◌, IfOk, OnErr, None, is_none, true, false};
 ghost use Rattle.values_heap.specs.Objects.{object_of};
 ghost use Rattle.std.specs.Option.{ForSome};
 ghost use Rattle.values_heap.specs.LastWrite.{last_written};
-ghost use Rattle.values_heap.specs.MemoryUse.{object_bytes, shape_bytes};
+ghost use Rattle.values_heap.specs.MemoryUse.{object_bytes};
 
-use crate::object::{Object, Shape, shape_of, size_of};
+use crate::object::{Object, shape_of, size_of};
 use crate::spare::SpareRoom;
 use base_types::Memory;
 use http_server::Log;
@@ -16,12 +16,9 @@ use http_server::Log;
 pub struct HeapObject {
     // `None` if the object has been freed.
     object: Option<Object>,
-    // What the size of the object depends on. It is that of the object while the object is there.
-    shape: Shape,
     // What was written here, for contracts alone. It takes no memory.
     written: Log<Object, ()>,
     ghost same: { ForSome object (λ o. last_written written.items ≡ object_of o) },
-    ghost sized: { shape_bytes shape ≡ object_bytes (last_written written.items) },
 }
 
 impl HeapObject {
@@ -35,10 +32,8 @@ impl HeapObject {
         ensures there { is_none result.object ≡ false }
     {
         let written = Log::new().and(&object, &());
-        let shape = shape_of(&object);
         HeapObject {
             object: Some(object),
-            shape,
             written,
         }
     }
@@ -78,7 +73,6 @@ impl HeapObject {
         ensures { written_object self.new ≡ object_of object }
     {
         self.written = Log::new().and(&object, &());
-        self.shape = shape_of(&object);
         self.object = Some(object);
     }
 
@@ -92,18 +86,31 @@ impl HeapObject {
     {
         match self.object.take() {
             Some(object) => {
+                let bytes = size_of(shape_of(&object));
                 spare.keep(object);
-                size_of(self.shape)
+                bytes
             }
             None => 0,
         }
     }
 
-    /// Returns the bytes that the object counts for.
+    /// Returns the bytes that the object counts for, or `Memory` if it has been freed.
     #[tactic(auto, unfolding(crate::specs::Own::written_object))]
-    pub fn size(&self) -> u128
-        ensures { result ≡ object_bytes (written_object self.now) }
+    pub fn size(&self) -> Result<u128, Memory>
+        ensures size { IfOk result (λ n. n ≡ object_bytes (written_object self.now)) }
+        ensures there { IfOk result (λ _. is_none self.now.object ≡ false) }
+        ensures gone { OnErr result (self.now.object ≡ None) }
     {
-        size_of(self.shape)
+        let Some(object) = &self.object else {
+            return Err(Memory::object_not_there());
+        };
+        Ok(size_of(shape_of(object)))
+    }
+
+    /// Returns whether the object is there, and not freed.
+    pub fn is_there(&self) -> bool
+        ensures gone { result ≡ false → is_none self.now.object ≡ true }
+    {
+        self.object.is_some()
     }
 }

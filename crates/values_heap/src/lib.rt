@@ -12,8 +12,11 @@ mod lists;
 mod marks;
 mod numbers;
 mod object;
+mod object_list;
 mod object_ref;
 mod objects;
+mod own_objects;
+mod pages;
 mod spare;
 mod steps;
 

@@ -6,6 +6,7 @@ ghost use Rattle.values_heap.specs.Reclamation.{bytes_of_own};
 use crate::heap::Heap;
 use crate::object_ref::{Entries, Members, ObjectRef};
 use crate::objects::Gap;
+use crate::pages::PAGE;
 use base_types::Memory;
 use indexmap::IndexMap;
 use std::alloc::Global;
@@ -16,8 +17,8 @@ use values_semantics::{Entry, Key, Val};
 /// `Memory`.
 #[derive(Drop)]
 pub struct Marks {
-    // For each own object, by its number among these, whether it is reached.
-    marks: Vec<bool>,
+    // For each page of own objects, and each object that has memory in it, whether it is reached.
+    marks: Vec<Vec<bool>>,
     // The gaps between own objects, in order, by which their numbers are found.
     gaps: Vec<Gap>,
     // The places of reached objects whose members are not visited yet.
@@ -28,8 +29,13 @@ impl Marks {
     /// Makes a record of the own objects of a heap, of which none is reached. It is for this heap alone, and until
     /// more objects are attached.
     pub fn new(alloc: Global, heap: &Heap) -> Result<Marks, Memory> {
-        let mut marks = Vec::new(alloc);
-        marks.resize(heap.objects.own_len(), false)?;
+        let pages = heap.objects.pages();
+        let mut marks = Vec::with_capacity(alloc, pages)?;
+        for page in 0..pages {
+            let mut unreached = Vec::new(alloc);
+            unreached.resize(heap.objects.page_len(page), false)?;
+            marks.push(unreached)?;
+        }
         Ok(Marks {
             marks,
             gaps: heap.objects.gaps(alloc)?,
@@ -64,10 +70,12 @@ impl Marks {
 
     // Marks the own object with a number as reached, which is at a place.
     fn add_own(&mut self, number: usize, place: usize) -> Result<(), Memory> {
-        if let Some(mark) = self.marks.get_mut(number) {
-            if !*mark {
-                *mark = true;
-                self.open.push(place)?;
+        if let Some(page) = self.marks.get_mut(number / PAGE) {
+            if let Some(mark) = page.get_mut(number % PAGE) {
+                if !*mark {
+                    *mark = true;
+                    self.open.push(place)?;
+                }
             }
         }
         Ok(())
@@ -111,9 +119,12 @@ impl Marks {
         Ok(())
     }
 
-    // Returns whether the own object with a number is reached.
-    fn has(&self, number: usize) -> bool {
-        self.marks.get(number).copied().unwrap_or(true)
+    // Returns which objects of a page are reached.
+    fn of_page(&self, page: usize) -> &[bool] {
+        match self.marks.get(page) {
+            Some(found) => found.as_slice(),
+            None => &[],
+        }
     }
 
     // Marks the members of an object as reached.
@@ -141,17 +152,32 @@ impl Heap {
         Ok(())
     }
 
-    /// Frees all own objects that are not reached. For a contract they are still there.
+    /// Frees all own objects that are not reached, and gives the memory of pages back in which none is left. For a
+    /// contract they are still there.
     pub fn sweep(&mut self, reached: &Marks)
         ensures same { store_of self.new ≡ store_of self.old }
         ensures held { self.new.held ≤ self.old.held }
     {
-        for number in 0..self.objects.own_len() {
-            if !reached.has(number) {
-                self.free_own(number);
+        let mut places: usize = 0;
+        for page in 0..self.objects.pages() {
+            self.sweep_page(page, reached.of_page(page));
+            self.objects.give_back(page);
+            places = places.saturating_add(self.objects.page_len(page));
+        }
+        self.set_threshold(places);
+    }
+
+    // Frees the own objects of a page that are not reached.
+    fn sweep_page(&mut self, page: usize, reached: &[bool])
+        ensures same { store_of self.new ≡ store_of self.old }
+        ensures held { self.new.held ≤ self.old.held }
+    {
+        let first = page.saturating_mul(PAGE);
+        for i in 0..reached.len() {
+            if !reached[i] {
+                self.free_own(first.saturating_add(i));
             }
         }
-        self.set_threshold();
     }
 
     // Frees the own object with a number, and refunds its bytes.

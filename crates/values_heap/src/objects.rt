@@ -4,15 +4,14 @@ ghost use Rattle.std.specs.Arc.{arc_value};
 ghost use Rattle.values_heap.specs.Looks.{seen_object};
 ghost use Rattle.values_heap.specs.MemoryUse.{found_bytes};
 ghost use Rattle.values_heap.specs.Objects.{object_of};
-ghost use Rattle.values_heap.specs.Reclamation.{IsGone, IsLent, IsKept, bytes_of_own, standing_bytes};
-ghost use Rattle.values_heap.specs.Standings.{Standing, Begun, own, has_gone, standing_of, lent_at, laid, InOrder, where_is, found_there, own_number, range_standings};
+ghost use Rattle.values_heap.specs.Reclamation.{IsGone, IsLent, IsKept, bytes_of_own, copy_bytes};
+ghost use Rattle.values_heap.specs.Standings.{Standing, Begun, own, lent_at, InOrder, where_is, found_there, own_number, range_standings};
 ghost use Rattle.values_heap.specs.Sought.{sought, sought_number};
 ghost use Rattle.values_heap.specs.View.{object_in};
-ghost use Rattle.values_heap.specs.Own.{written_object};
 
-use crate::heap_object::HeapObject;
 use crate::object::{Object, frozen_shape, size_of};
-use crate::object_ref::{ObjectRef, show, show_lent};
+use crate::object_ref::{ObjectRef, show_lent};
+use crate::own_objects::OwnObjects;
 use crate::spare::SpareRoom;
 use base_types::Memory;
 use std::alloc::Global;
@@ -42,7 +41,7 @@ pub(crate) struct Gap {
 /// What is on a heap. Its own objects are in one list. An attached range has the places after all that was there
 /// before, and is shared. A contract sees what is at each place.
 pub struct Objects {
-    own: Vec<HeapObject>,
+    own: OwnObjects,
     ranges: Vec<Range>,
     // The place after the last range, and how many objects are attached.
     from: u32,
@@ -61,14 +60,15 @@ impl Drop for Objects {
 }
 
 impl Model for Objects {
-    ghost use Rattle.std.specs.Prelude.{List, map, length};
-    ghost use Rattle.values_heap.specs.Standings.{Standing, standing_of, laid, InOrder};
+    ghost use Rattle.std.specs.Prelude.{List, length};
+    ghost use Rattle.values_heap.specs.Pages.{own_standings};
+    ghost use Rattle.values_heap.specs.Standings.{Standing, laid, InOrder};
 
     ghost Value = { List Standing };
 
-    ghost view = { λ o. laid o.ranges.items (map standing_of o.own.items) };
+    ghost view = { λ o. laid o.ranges.items (own_standings o.own) };
 
-    ghost invariant = { λ o. InOrder o.ranges.items 0 0 (length o.own.items) o.from o.lent };
+    ghost invariant = { λ o. InOrder o.ranges.items 0 0 (length (own_standings o.own)) o.from o.lent };
 }
 
 // What is at a place: an own object, by its number among these, or an attached one with the place at which its range
@@ -135,59 +135,13 @@ fn seek<'a>(ranges: &'a [Range], from: u32, lent: u32, place: usize) -> Spot<'a>
     seek_in(ranges, place)
 }
 
-// Returns the own object with a number, if there is one, or `Memory` if it has been freed.
-#[inline(always)]
-fn look_own(objects: &[HeapObject], i: usize) -> Result<Option<ObjectRef<'_>>, Memory>
-    ensures found { IfOk result (λ found. option_map written_object (slice_get objects.now i) ≡
-        option_map seen_object found) }
-    ensures gone { OnErr result (option_map has_gone (slice_get objects.now i) ≡ Some true) }
-{
-    match objects.get(i) {
-        Some(found) => {
-            let object = found.object()?;
-            Ok(Some(show(object)))
-        }
-        None => Ok(None),
-    }
-}
-
-// Takes the own object with a number, if there is one, or returns `Memory` if it has been freed.
-#[inline(always)]
-fn take_own(objects: &mut Vec<HeapObject>, i: usize) -> Result<Option<Object>, Memory>
-    ensures same { map written_object objects.new.items ≡ map written_object objects.old.items }
-    ensures number { length objects.new.items ≡ length objects.old.items }
-    ensures taken { IfOk result (λ found. option_map written_object (slice_get objects.old.items
-        i) ≡ option_map object_of found) }
-    ensures gone { OnErr result (option_map has_gone (slice_get objects.old.items i) ≡ Some true) }
-{
-    match objects.get_mut(i) {
-        Some(found) => match found.take() {
-            Ok(object) => Ok(Some(object)),
-            Err(memory) => Err(memory),
-        },
-        None => Ok(None),
-    }
-}
-
-// Puts another object in the place of the own one with a number, if there is one.
-#[inline(always)]
-fn put_own(objects: &mut Vec<HeapObject>, i: usize, object: Object)
-    ensures put { map written_object objects.new.items ≡ slice_set (map written_object
-        objects.old.items) i (object_of object) }
-    ensures number { length objects.new.items ≡ length objects.old.items }
-{
-    if let Some(found) = objects.get_mut(i) {
-        found.write(object);
-    }
-}
-
 impl Objects {
     /// Makes what is on an empty heap.
     pub fn new(alloc: Global) -> Objects
         ensures { result ≡ [] }
     {
         Objects {
-            own: Vec::new(alloc),
+            own: OwnObjects::new(alloc),
             ranges: Vec::new(alloc),
             from: 0,
             lent: 0,
@@ -210,7 +164,7 @@ impl Objects {
         ensures gone { OnErr result (IsGone self.now place) }
     {
         match seek(self.ranges.as_slice(), self.from, self.lent, place) {
-            Spot::Own(i) => look_own(self.own.as_slice(), i),
+            Spot::Own(i) => self.own.object_ref(i),
             Spot::Lent {
                 object: Some(object),
                 base,
@@ -232,7 +186,7 @@ impl Objects {
         ensures kept { OnErr result (IsKept self.old place) }
     {
         match seek(self.ranges.as_slice(), self.from, self.lent, place) {
-            Spot::Own(i) => take_own(&mut self.own, i),
+            Spot::Own(i) => self.own.take(i),
             Spot::Lent {
                 object: Some(_object),
                 base: _base,
@@ -255,7 +209,7 @@ impl Objects {
     {
         match seek(self.ranges.as_slice(), self.from, self.lent, place) {
             Spot::Own(i) => {
-                put_own(&mut self.own, i, object);
+                self.own.put(i, object);
                 Ok(())
             }
             Spot::Lent {
@@ -275,20 +229,23 @@ impl Objects {
         }
     }
 
-    /// Returns the bytes that the object at a place counts for, or 0 if there is none.
-    pub fn size_at(&self, place: usize) -> u128
-        ensures { result ≡ found_bytes (slice_get (map object_in self.now) place) }
+    /// Returns the bytes that the object at a place counts for, or 0 if there is none, or `Memory` if it has been freed.
+    pub fn size_at(&self, place: usize) -> Result<u128, Memory>
+        ensures found { IfOk result
+            (λ n. n ≡ found_bytes (slice_get (map object_in self.now) place)) }
+        ensures counted { IfOk result (λ n. n ≡ copy_bytes (slice_get self.now place)) }
+        ensures gone { OnErr result (IsGone self.now place) }
     {
         match seek(self.ranges.as_slice(), self.from, self.lent, place) {
-            Spot::Own(i) => size_own(self.own.as_slice(), i),
+            Spot::Own(i) => self.own.size(i),
             Spot::Lent {
                 object: Some(object),
                 base: _base,
-            } => size_of(frozen_shape(object)),
+            } => Ok(size_of(frozen_shape(object))),
             Spot::Lent {
                 object: None,
                 base: _base,
-            } => 0,
+            } => Ok(0),
         }
     }
 
@@ -301,7 +258,7 @@ impl Objects {
         ensures pushed { OnOk result (self.new ≡ self.old ++ own (object_of object) false ∷ []) }
         ensures same { OnErr result (self.new ≡ self.old) }
     {
-        self.own.push(HeapObject::new(object))?;
+        self.own.push(object)?;
         Ok(())
     }
 
@@ -323,9 +280,26 @@ impl Objects {
         Ok(())
     }
 
-    /// Returns how many own objects there are.
+    /// Returns how many own objects there are, with those that have been freed.
     pub(crate) fn own_len(&self) -> usize {
         self.own.len()
+    }
+
+    /// Returns how many pages the own objects have.
+    pub(crate) fn pages(&self) -> usize {
+        self.own.pages()
+    }
+
+    /// Returns how many own objects have memory in the page with a number.
+    pub(crate) fn page_len(&self, page: usize) -> usize {
+        self.own.page_len(page)
+    }
+
+    /// Gives the memory of the page with a number back if all its objects have been freed.
+    pub(crate) fn give_back(&mut self, page: usize)
+        ensures { self.new ≡ self.old }
+    {
+        self.own.give_back(page);
     }
 
     /// Returns the gaps between own objects, in order. The time depends on the number of ranges, and not on what is in
@@ -348,30 +322,7 @@ impl Objects {
         ensures same { map object_in self.new ≡ map object_in self.old }
         ensures bytes { result ≡ bytes_of_own self.old number }
     {
-        free_own(&mut self.own, number, spare)
-    }
-}
-
-// Frees the own object with a number, and returns the bytes that it counted for.
-fn free_own(objects: &mut Vec<HeapObject>, i: usize, spare: &mut SpareRoom) -> u128
-    ensures same { map written_object objects.new.items ≡ map written_object objects.old.items }
-    ensures number { length objects.new.items ≡ length objects.old.items }
-    ensures bytes { result ≡ standing_bytes
-        (option_map standing_of (slice_get objects.old.items i)) }
-{
-    match objects.get_mut(i) {
-        Some(found) => found.free(spare),
-        None => 0,
-    }
-}
-
-// Returns the bytes that the own object with a number counts for, or 0 if there is none.
-fn size_own(objects: &[HeapObject], i: usize) -> u128
-    ensures { result ≡ found_bytes (option_map written_object (slice_get objects.now i)) }
-{
-    match objects.get(i) {
-        Some(object) => object.size(),
-        None => 0,
+        self.own.free(number, spare)
     }
 }
 

@@ -1,4 +1,4 @@
-use Rattle.std.proofs.Common.{◌≡◌, ◌≤◌, ◌-◌, ◌+ℤ◌, pos, FitsSigned, w64, to_z, of_z, sym, subst, ap, ◌∙◌, arith}
+use Rattle.std.proofs.Common.{◌≡◌, ◌≤◌, ◌-◌, ◌+ℤ◌, pos, FitsSigned, w64, to_z, of_z, sym, subst, ap, ◌∙◌}
 use Rattle.std.proofs.lemmas.Int.{to_z-of_z}
 use Rattle.values_semantics.specs.Functions.{numbers}
 use Rattle.values_heap.proofs.Consecutive.{numbers_between, first_fits, number_fits}

@@ -1,14 +1,15 @@
 use Rattle.std.proofs.Common.{map, sym, ap, ◌∙◌}
+use Rattle.values_heap.specs.Pages.{own_standings}
 use Rattle.values_heap.specs.Reclamation.{standing_bytes}
 use Rattle.values_heap.specs.View.{object_in}
-use Rattle.values_heap.proofs.Places.{told_same}
-use Rattle.values_heap.proofs.OwnObjects.{own_numbered}
+use Rattle.values_heap.proofs.Places.{told}
+use Rattle.values_heap.proofs.OwnObjects.{are_own, own_numbered}
 use Rattle.values_heap.proofs.objects.Objects.free.Goals as goal
 
 pub returns-clause-same : goal.returns-clause-same
-returns-clause-same c = told_same c.self.inside.ranges.items c.self.inside.own.items c.free_own.new.objects.items c.free_own.ensures.same ∙ ap (map object_in) c.self.view_is
+returns-clause-same c = told c.self.inside.ranges.items (own_standings c.free.new.self) (own_standings c.self.inside.own) c.free.ensures.same ∙ ap (map object_in) c.self.view_is
 
 pub returns-clause-bytes : goal.returns-clause-bytes
 returns-clause-bytes c =
     let fields = c.self.inside in
-    c.free_own.ensures.bytes ∙ sym (ap standing_bytes (own_numbered fields.own.items fields.ranges.items fields.from fields.lent c.args.number c.args.self.now c.self.view_is c.self.invariant))
+    c.free.ensures.bytes ∙ sym (ap standing_bytes (own_numbered (own_standings fields.own) fields.ranges.items fields.from fields.lent c.args.number c.args.self.now (are_own fields.own) c.self.view_is c.self.invariant))

@@ -5,7 +5,7 @@ use Rattle.values_heap.specs.Standings.{standing_of}
 use Rattle.values_heap.specs.Own.{written_object}
 use Rattle.values_heap.proofs.Places.{own_bytes}
 use Rattle.values_heap.proofs.Standing.{there, none_there}
-use Rattle.values_heap.proofs.objects.free_own.Goals as goal
+use Rattle.values_heap.proofs.object_list.free_own.Goals as goal
 
 pub returns-in-Some-clause-same : goal.returns-in-Some-clause-same
 returns-in-Some-clause-same c = map-set_same written_object c.args.objects.now.items c.args.i c.free.new.self c.in-Some.found.now (c.free.ensures.same ∙ ap written_object c.in-Some.ensures.value)

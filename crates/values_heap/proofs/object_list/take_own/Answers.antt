@@ -3,7 +3,7 @@ use Rattle.std.proofs.Math.Seq.{map-set_same}
 use Rattle.values_heap.specs.Standings.{has_gone}
 use Rattle.values_heap.specs.Own.{written_object}
 use Rattle.values_heap.proofs.Standing.{there, none_there}
-use Rattle.values_heap.proofs.objects.take_own.Goals as goal
+use Rattle.values_heap.proofs.object_list.take_own.Goals as goal
 
 pub returns-in-Ok-clause-same : goal.returns-in-Ok-clause-same
 returns-in-Ok-clause-same c = map-set_same written_object c.args.objects.now.items c.args.i c.take.new.self c.in-Some.found.now (c.in-Ok.ensures.same ∙ ap written_object c.in-Some.ensures.value)
