@@ -1,8 +1,11 @@
 -- The parts between separators, by the place of the first one.
-use Rattle.std.proofs.Common.{◌≡◌, ℕ, zero, suc, ◌+◌, ◌-◌, ◌<◌, ◌≤◌, List, [], ◌∷◌, ◌++◌, length, take, drop, Bool, true, false, cond, Some, None, refl, sym, ap, ◌∙◌, append_assoc, arith, length-drop, length-take}
-use Rattle.std.proofs.lemmas.List.{append-nil, take_rest}
+use Rattle.std.proofs.Common.{◌≡◌, ℕ, zero, suc, ◌+◌, ◌-◌, ◌<◌, ◌≤◌, List, [], ◌∷◌, ◌++◌, length, take, drop, Bool, true, false, cond, Some, None, refl, sym, ap, ◌∙◌, append_assoc, arith, length-drop, length-take, inl, inr}
+use Rattle.std.proofs.lemmas.List.{append-nil, take_rest, drop-drop}
 use lib.Pointwise.{bytes_decides}
-use Rattle.memchr.specs.Find.{OccursAt, FindsNeedle}
+use Rattle.memchr.specs.Find.{OccursAt, FindsNeedle, Nowhere}
+use Rattle.memchr.proofs.lemmas.FindLemmas.{Nowhere-more}
+use Rattle.std.specs.Prelude.{◌⊎◌}
+use Rattle.std.proofs.lemmas.Bool.{cases_lt, false≢true}
 use Rattle.memchr.proofs.lemmas.MatchLemmas.{OccursAt-part, OccursAt-from_part}
 use Rattle.values_semantics.specs.Membership.{begins}
 use Rattle.values_semantics.specs.Methods.{parts, split_by}
@@ -68,6 +71,42 @@ module _ (sep : List ℕ) (some : 0 < length sep) where
 
   pub split_over : (rest : List ℕ) → FindsNeedle rest sep 0 None → split_by sep rest ≡ rest ∷ []
   split_over rest h = found_none (length rest) [] rest (λ j le. unless _ (λ t. h j (omega arith) (omega arith) (occurs rest j le t)))
+
+  -- an occurrence after the first n places is one of what follows them, and the other way round
+  occurs_later : (rest : List ℕ) (n k : ℕ) → OccursAt (drop n rest) sep k → OccursAt rest sep (n + k)
+  occurs_later rest n k h =
+      let fits = h.fits in
+      occurs rest (n + k) (omega (arith, some, fits, length-drop n rest)) (ap (begins sep) (sym (drop-drop k n rest)) ∙ begins_there (drop n rest) k h)
+
+  occurs_after : (rest : List ℕ) (n k : ℕ) → n ≤ k → OccursAt rest sep k → OccursAt (drop n rest) sep (k - n)
+  occurs_after rest n k le h =
+      let fits = h.fits in
+      let same : n + (k - n) ≡ k = omega arith in
+      occurs (drop n rest) (k - n) (omega (arith, fits, length-drop n rest)) (ap (begins sep) (drop-drop (k - n) n rest ∙ ap (λ j. drop j rest) same) ∙ begins_there rest k h)
+
+  -- the first occurrence is among the places that are tried
+  pub near_found : (rest : List ℕ) (k : ℕ) → k < length rest → begins sep (drop k rest) ≡ true → Nowhere (OccursAt rest sep) 0 k → FindsNeedle rest sep 0 (Some k)
+  near_found rest k lt h before = (record { low = omega arith; high = omega arith; before = before }, occurs rest k (omega arith) h)
+
+  pub near_more : (rest : List ℕ) (k : ℕ) → begins sep (drop k rest) ≡ false → Nowhere (OccursAt rest sep) 0 k → Nowhere (OccursAt rest sep) 0 (k + 1)
+  near_more rest k h before = Nowhere-more before (λ o. absurd (false≢true (sym h ∙ begins_there rest k o)))
+
+  -- it is found in what follows them
+  pub far_found : (rest : List ℕ) (n k : ℕ) → n ≤ length rest → Nowhere (OccursAt rest sep) 0 n → FindsNeedle (drop n rest) sep 0 (Some k) → FindsNeedle rest sep 0 (Some (n + k))
+  far_found rest n k le before h =
+      let high = h.0.high in
+      (record { low = omega arith; high = omega (arith, high, length-drop n rest); before = λ j low lt o. by j low lt o (cases_lt j n) }, occurs_later rest n k h.1)
+    where
+      by : (j : ℕ) → 0 ≤ j → j < n + k → OccursAt rest sep j → (j < n) ⊎ (n ≤ j) → ⊥
+      by j low lt o (inl near) = before j low near o
+      by j low lt o (inr far) = h.0.before (j - n) (omega arith) (omega arith) (occurs_after rest n j far o)
+
+  pub far_none : (rest : List ℕ) (n : ℕ) → n ≤ length rest → Nowhere (OccursAt rest sep) 0 n → FindsNeedle (drop n rest) sep 0 None → FindsNeedle rest sep 0 None
+  far_none rest n le before h = λ j low lt o. by j low lt o (cases_lt j n)
+    where
+      by : (j : ℕ) → 0 ≤ j → j < length rest + 1 → OccursAt rest sep j → (j < n) ⊎ (n ≤ j) → ⊥
+      by j low lt o (inl near) = before j low near o
+      by j low lt o (inr far) = h (j - n) (omega arith) (omega (arith, length-drop n rest)) (occurs_after rest n j far o)
 
   -- a part is taken, and what follows its separator is left
   pub part_taken : (done more : List (List ℕ)) (whole rest part tail next : List ℕ) (k : ℕ) → done ++ split_by sep rest ≡ split_by sep whole → FindsNeedle rest sep 0 (Some k) → part ≡ take k rest → tail ≡ drop k rest → next ≡ take (length tail - length sep) (drop (length sep) tail) → more ≡ done ++ part ∷ [] → more ++ split_by sep next ≡ split_by sep whole

@@ -11,7 +11,7 @@ use Rattle.values_semantics.specs.Operators.{add}
 use Rattle.values_semantics.specs.Indexing.{hash, keys_of, value_of}
 use Rattle.values_semantics.specs.Membership.{begins}
 use Rattle.values_semantics.specs.Functions.{the_items}
-use Rattle.values_semantics.specs.Methods.{adds, add_in_place, nothing_after, the_bytes, ends, stripped, split, replace, joins_items}
+use Rattle.values_semantics.specs.Methods.{adds, add_in_place, nothing_after, the_bytes, all_bytes, with_between, ends, stripped, split, replace, joins_items}
 use Rattle.values_semantics.specs.declared.faults.TheConstants.{TOO_LARGE, WRONG_ARGUMENTS, WRONG_TYPE}
 use Rattle.values_semantics.specs.Values.{bool_value}
 
@@ -103,6 +103,18 @@ of_dict object name xs =
 abbrev pub only_text : List Val → Does Store (List ℕ)
 only_text (x ∷ []) = the_bytes x
 only_text xs = fault WRONG_ARGUMENTS
+
+-- whether all of these are texts
+abbrev pub are_texts : List Val → Does Store (Unit {0})
+are_texts xs = all_bytes xs >> pure tt
+
+-- a text if it is not too long
+abbrev pub sized_text : List ℕ → Does Store (List ℕ)
+sized_text bytes = if is_sized (length bytes) then pure bytes else fault TOO_LARGE
+
+-- the texts of values with another one between them
+abbrev pub joined : List ℕ → List Val → Does Store (List ℕ)
+joined sep xs = all_bytes xs >>= λ ts. sized_text (with_between sep ts)
 
 -- `split` by what the only argument says
 abbrev pub split_only : List ℕ → List Val → Does Store Val

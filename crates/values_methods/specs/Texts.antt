@@ -1,7 +1,5 @@
 -- Texts after texts, and texts that are borrowed.
-use Rattle.std.specs.Prelude.{◌≡◌, ℕ, true, false, List, ◌++◌, length, map, Result, Ok, Err}
-use Rattle.std.specs.declared.vec.Vec.{Vec}
-use Rattle.std.specs.declared.alloc.Global.{Global}
+use Rattle.std.specs.Prelude.{◌≡◌, ◌==◌, ℕ, true, false, List, [], ◌∷◌, ◌++◌, length, map, Result, Ok, Err, if◌then◌else◌}
 use denote.Ref.{Bor}
 use Rattle.values_semantics.specs.Outcome.{Out, gives, faults, ValueOrFault, good, bad}
 use Rattle.values_semantics.specs.Heap.{is_sized}
@@ -31,8 +29,10 @@ SaysText out (Ok t) s = out ≡ gives t.now s
 SaysText out (Err (Code c)) s = out ≡ faults c
 SaysText out (Err (Memory _)) s = Unit {0}
 
--- as `Says`, of texts that are borrowed
-abbrev pub SaysTexts : {S : Type 0} → Out S (List (List ℕ)) → Result (Vec (Bor (List ℕ)) Global) Halt → S → Type 0
-SaysTexts out (Ok v) s = out ≡ gives (shown v.items) s
-SaysTexts out (Err (Code c)) s = out ≡ faults c
-SaysTexts out (Err (Memory _)) s = Unit {0}
+-- `new` in the place of the byte `old`, and each other byte as it is
+abbrev pub exchanged : ℕ → ℕ → ℕ → ℕ
+exchanged old new byte = if old == byte then new else byte
+
+-- the same, where `new` is a text
+abbrev pub replaced : ℕ → List ℕ → ℕ → List ℕ
+replaced old new byte = if old == byte then new else byte ∷ []

@@ -1,14 +1,14 @@
 //! The methods of strings.
 ghost use Rattle.std.specs.Prelude.{◌≤◌, length};
 ghost use Rattle.values_semantics.specs.Heap.{makes_text};
-ghost use Rattle.values_semantics.specs.Methods.{bytes_of, all_bytes, joins_items, makes_texts, replace};
-ghost use Rattle.values_methods.specs.Cases.{only_text, split_only, of_text};
-ghost use Rattle.values_methods.specs.Texts.{shown, ChecksText, SaysText, SaysTexts};
+ghost use Rattle.values_semantics.specs.Methods.{bytes_of, joins_items, makes_texts, replace};
+ghost use Rattle.values_methods.specs.Cases.{only_text, split_only, of_text, are_texts, joined};
+ghost use Rattle.values_methods.specs.Texts.{shown, ChecksText, SaysText};
 ghost use Rattle.values_heap.specs.View.{store_of, Says, SaysItems};
 
 use crate::names::{is_name, no_arguments};
 use crate::spaces::{ends_with, starts_with, strip};
-use crate::splitting::{join_parts, replace_parts, split_parts};
+use crate::splitting::{push_part, replace_parts, split_parts};
 use base_types::Text;
 use values_heap::{Bytes, Halt, Heap, MAX_LENGTH, Object, ObjectRef, Val};
 use values_operators::items;
@@ -69,16 +69,33 @@ fn only_text<'a>(heap: &'a Heap, xs: &[Val]) -> Result<&'a [u8], Halt>
     text_at(heap, *x)
 }
 
-// Returns the texts of values, or fault 5.
-fn texts_at<'a>(heap: &'a Heap, xs: &[Val]) -> Result<Vec<&'a [u8]>, Halt>
-    ensures { SaysTexts (all_bytes xs.now (store_of heap.now)) result (store_of heap.now) }
+// Returns fault 5 if one of these values is no text.
+fn check_texts(heap: &Heap, xs: &[Val]) -> Result<(), Halt>
+    ensures { Says (are_texts xs.now (store_of heap.now)) result (store_of heap.now) }
+{
+    for x in xs {
+        if let Err(halt) = text_at(heap, *x) {
+            return Err(halt);
+        }
+    }
+    Ok(())
+}
+
+// Returns the texts of values with another one between them, or fault 5 or 13. Fault 5 comes first, also where a value
+// that is no text is after a text that is too much.
+fn join_texts(heap: &Heap, separator: &[u8], xs: &[Val]) -> Result<Vec<u8>, Halt>
+    ensures { SaysItems (joined separator.now xs.now (store_of heap.now)) result
+        (store_of heap.now) }
 {
     let mut all = Vec::new(heap.alloc);
+    let mut between: &[u8] = b"";
     for x in xs {
-        match text_at(heap, *x) {
-            Ok(text) => all.push(text)?,
-            Err(halt) => return Err(halt),
+        let text = text_at(heap, *x)?;
+        if let Err(halt) = push_part(&mut all, between, text) {
+            check_texts(heap, xs)?;
+            return Err(halt);
         }
+        between = separator;
     }
     Ok(all)
 }
@@ -129,9 +146,7 @@ fn join(heap: &mut Heap, separator: &[u8], xs: &[Val]) -> Result<Val, Halt>
         return Err(Halt::Code(faults::WRONG_ARGUMENTS));
     };
     let members = items(heap, *x)?;
-    let texts = texts_at(heap, members.as_slice())?;
-    let all = join_parts(heap.alloc, separator, texts.as_slice())?;
-    drop(texts);
+    let all = join_texts(heap, separator, members.as_slice())?;
     heap.make_text(all)
 }
 
