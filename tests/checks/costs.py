@@ -93,6 +93,14 @@ def many_marks() -> list[Command]:
     return [*files, *loads, put("m/m.bzl", "X = 2\n"), load("p1")]
 
 
+def files_found_often() -> list[Command]:
+    """A glob of 1,000 patterns that each find the same 30,000 files."""
+    files = [put(f"s/{'a' * 20}{number}.c", "") for number in range(30_000)]
+    pattern = '"a" * i + "*a" + "a" * j + "*"'
+    includes = f"[{pattern} for i in range(10) for j in range(10)] * 10"
+    return [*files, *of_build(f"x = glob({includes})\n")]
+
+
 def many_directories() -> list[Command]:
     """A glob that finds 20,000 directories."""
     files = [put(f"s/d{number}/x.c", "") for number in range(20_000)]
@@ -157,6 +165,7 @@ COSTS: dict[str, tuple[Callable[[], list[Command]], str]] = {
         lambda: chain_of_packages("a") + [under("")],
         "126 packages, 0 targets, 0 faults",
     ),
+    "1,000 patterns that each find 30,000 files": (files_found_often, one("s")),
     "a glob that finds 20,000 directories": (
         many_directories,
         '{"packages":[{"name":"s","targets":[{"attrs":{},"kind":"filegroup","name":"40001"}]}]}',

@@ -88,6 +88,12 @@ def includes_with_a_star(count: int) -> list[Command]:
     return [*files, put("s/BUILD", f"x = glob({names})\n"), load("s")]
 
 
+def repeated_include(count: int) -> list[Command]:
+    """A glob with one include so many times, in a directory of 1,024 files."""
+    files = [put(f"s/f{number}", "") for number in range(1024)]
+    return [*files, put("s/BUILD", f'x = glob(["*"] * {count})\n'), load("s")]
+
+
 def excludes_with_a_star(count: int) -> list[Command]:
     """A glob of so many files, with as many excludes that have a star and match none."""
     files = [put(f"s/f{number}", "") for number in range(count)]
@@ -201,6 +207,7 @@ GROWTHS: dict[str, tuple[Callable[[int], list[Command]], int, str]] = {
     "includes of a glob that are files": (includes_of_files, 32_768, EMPTY),
     "includes of a glob in descending order": (includes_from_the_last, 16_384, EMPTY),
     "includes of a glob with stars": (includes_with_a_star, 16_384, EMPTY),
+    "one include of a glob": (repeated_include, 32_768, EMPTY),
     "excludes of a glob with stars": (excludes_with_a_star, 16_384, EMPTY),
     "globs of one include": (globs, 3_000, EMPTY),
     "globs of includes that have answers": (answered_globs, 16_384, EMPTY),

@@ -10,7 +10,7 @@ use Rattle.evaluator_semantics.specs.Globs.{answer_to, found_or_none, queries_wi
 use Rattle.evaluator_package_calls.specs.GlobResults.{kept_unless, found_all, with_unanswered}
 use Rattle.values_builtins.proofs.Rows.{drop_item}
 
-kept-append : (excludes : List ℕ → Bool) (xs ys : List (List ℕ)) → kept_unless excludes (xs ++ ys) ≡ kept_unless excludes xs ++ kept_unless excludes ys
+pub kept-append : (excludes : List ℕ → Bool) (xs ys : List (List ℕ)) → kept_unless excludes (xs ++ ys) ≡ kept_unless excludes xs ++ kept_unless excludes ys
 kept-append excludes xs ys = filter-append _ xs ys
 
 pub gathered_step : (answers : Answers) (excludes : List ℕ → Bool) (includes : List (List ℕ)) (i : ℕ) (p q : List ℕ) (done more whole : List (List ℕ)) → i < length includes → p ≡ get_or includes i p → q ≡ p

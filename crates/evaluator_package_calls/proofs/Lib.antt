@@ -15,3 +15,4 @@ pub mod TargetSets
 pub mod TextSets
 pub mod Twice
 pub mod Within
+pub mod SameTexts

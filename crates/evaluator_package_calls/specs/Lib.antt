@@ -7,3 +7,4 @@ pub mod GlobCalls
 pub mod GlobResults
 pub mod View
 pub mod Within
+pub mod SameTexts

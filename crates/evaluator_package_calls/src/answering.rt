@@ -12,6 +12,7 @@ ghost use Rattle.pattern_tables.specs.Excluding.{is_excluded};
 ghost use Rattle.evaluator_package_calls.specs.AnswerTables.{HasTexts};
 
 use crate::answers::Answers;
+use crate::distinct_paths::distinct_paths;
 use crate::ordering::in_order;
 use base_types::{Memory, Text};
 use pattern::Pattern;
@@ -122,6 +123,10 @@ pub fn glob_paths(
         (kept_of excludes.now (found_all answers.now questions.now))) }
 {
     let sorted = Excludes::new(alloc, excludes)?;
+    if questions.len() > FEW {
+        let all = distinct_paths(alloc, answers, questions, &sorted)?;
+        return in_order(alloc, all.as_slice());
+    }
     let all = matching_paths(alloc, answers, questions, &sorted)?;
     in_order(alloc, all.as_slice())
 }

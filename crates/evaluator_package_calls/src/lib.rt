@@ -8,6 +8,7 @@ mod attributes;
 mod by_name;
 mod charging;
 mod counting;
+mod distinct_paths;
 mod fields;
 mod globbing;
 mod kinds;
