@@ -44,11 +44,10 @@ fn add_once(all: &mut Vec<Module>, labels: &mut IndexSet<Text>, m: &Module) -> R
     ensures labelled { OnOk result (labels.new.keys ≡ labels_of all.new.items) }
     ensures once { OnOk result (all.new.items ≡ each_once all.old.items (m.now ∷ [])) }
 {
-    if labels.contains(m.label()) {
-        return Ok(());
+    let is_new = labels.insert(m.label().share()?)?;
+    if is_new {
+        all.push(m.share()?)?;
     }
-    labels.insert(m.label().share()?)?;
-    all.push(m.share()?)?;
     Ok(())
 }
 
@@ -78,6 +77,14 @@ fn module_from(modules: &[Module], place: Option<usize>) -> Option<&Module>
     }
 }
 
+// Returns how many modules the first of some loads reaches, which is mostly as many as all reach.
+fn reached_by_first(loads: &[ModuleValue]) -> usize {
+    match loads.first() {
+        Some(loaded) => loaded.reachable().len().saturating_add(1),
+        None => 0,
+    }
+}
+
 impl ModuleTable {
     /// Returns the modules that loads reach, each once.
     ///
@@ -87,8 +94,9 @@ impl ModuleTable {
     pub fn of(alloc: Global, loads: &[ModuleValue]) -> Result<ModuleTable, Memory>
         ensures { IfOk result (λ r. r ≡ each_once [] (all_bodies loads.now)) }
     {
-        let mut all = Vec::new(alloc);
-        let mut labels = IndexSet::new(alloc);
+        let room = reached_by_first(loads);
+        let mut all = Vec::with_capacity(alloc, room)?;
+        let mut labels = IndexSet::with_capacity(alloc, room)?;
         for loaded in loads.iter() {
             add_once(&mut all, &mut labels, loaded.body())?;
             add_each(&mut all, &mut labels, loaded.reachable())?;
