@@ -12,6 +12,7 @@ MAKERS = {
         "crates/values_freeze/src/laying.rt",
         "crates/values_heap/src/heap.rt",
         "crates/values_heap/src/objects.rt",
+        "crates/values_heap/src/own_objects.rt",
         "crates/node_table/src/flat.rt",
         "crates/node_table/src/table.rt",
         "crates/round/src/out_keys.rt",
@@ -21,6 +22,7 @@ MAKERS = {
     "object_not_there": {
         "crates/values_heap/src/heap_object.rt",
         "crates/values_heap/src/objects.rt",
+        "crates/values_heap/src/pages.rt",
     },
     "told_by_library": {
         "crates/loader_commands/src/reading.rt",

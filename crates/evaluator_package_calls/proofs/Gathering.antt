@@ -1,6 +1,7 @@
 -- One pattern more of a call of `glob`: what it finds, and whether it is asked.
-use Rattle.std.proofs.Common.{◌≡◌, ◌+◌, ◌<◌, ℕ, Bool, true, false, List, [], ◌∷◌, ◌++◌, length, drop, reverse, get_or, refl, ap, sym, ◌∙◌, append_assoc}
+use Rattle.std.proofs.Common.{◌≡◌, ◌+◌, ◌<◌, ℕ, Bool, true, false, List, [], ◌∷◌, ◌++◌, length, drop, reverse, get_or, Option, Some, None, option_map, refl, ap, sym, ◌∙◌, append_assoc}
 use Rattle.std.specs.Prelude.{is_some, ◌||◌, if◌then◌else◌}
+use Rattle.std.specs.Borrow.{Bor}
 use Rattle.std.proofs.lemmas.List.{reverse-append}
 use Rattle.std.proofs.lemmas.List.Elements.{filter-append}
 use Rattle.values_semantics.specs.Comparing.{same_text}
@@ -49,6 +50,11 @@ has_turned x (y ∷ ys) =
     by : (b : Bool) → ((if b then true else false) || has_name x ys) ≡ (if b then true else has_name x ys)
     by true = refl
     by false = refl
+
+-- a question that was looked up has an answer if one was found
+pub is_answered : (found : Option (Bor (List (List ℕ)))) {o : Option (List (List ℕ))} → option_map (λ paths. paths.now) found ≡ o → is_some o ≡ is_some found
+is_answered (Some paths) e = ap is_some (sym e)
+is_answered None e = ap is_some (sym e)
 
 pub unanswered_step : (answers : Answers) (patterns : List (List ℕ)) (i : ℕ) (p q : List ℕ) (done more whole : List (List ℕ)) → i < length patterns → p ≡ get_or patterns i p → q ≡ p
     → more ≡ with_unanswered q answers done → done ++ queries_without_result answers (reverse done) (drop i patterns) ≡ whole → more ++ queries_without_result answers (reverse more) (drop (i + 1) patterns) ≡ whole

@@ -15,16 +15,13 @@ use Rattle.evaluator_semantics.specs.Names.{has_name}
 use Rattle.evaluator_semantics.specs.Sorting.{put_by, put, in_order, RisesFrom, Rises}
 use Rattle.evaluator_semantics.proofs.Rising.{in_order_rises}
 use Rattle.evaluator_package_calls.specs.GlobResults.{kept_unless, found_all}
-use Rattle.evaluator_package_calls.specs.SameTexts.{HasSame}
+use Rattle.evaluator_package_calls.specs.SameTexts.{HasSame, with_text}
 use Rattle.evaluator_package_calls.proofs.Gathering.{has-append, kept-append}
 use Rattle.values_builtins.proofs.Rows.{drop_item}
 
 -- a text by itself, as its own name
 abbrev pub itself : List ℕ → List ℕ
 itself text = text
-
-compared : (x y : List ℕ) → Ordering
-compared x y = slice_cmp nat_cmp x y
 
 alike : (x y : List ℕ) → same_text x y ≡ true → x ≡ y
 alike x y h = (bytes_decides x y).0 h
@@ -209,6 +206,14 @@ there_already p all h x = by (same_text x p) refl ∙ sym (has-append x all (p �
     by : (s : Bool) → same_text x p ≡ s → has_name x all ≡ (has_name x all || (if same_text x p then true else false))
     by true e = yes (has_name x all) (ap (λ t. has_name t all) (alike x p e) ∙ h) ∙ ap (λ b. has_name x all || (if b then true else false)) (sym e)
     by false e = no (has_name x all) ∙ ap (λ b. has_name x all || (if b then true else false)) (sym e)
+
+-- a text that is kept once
+pub kept_once : (p : List ℕ) (all : List (List ℕ)) → HasSame (with_text p all) (all ++ p ∷ [])
+kept_once p all = by (has_name p all) refl
+  where
+    by : (s : Bool) → has_name p all ≡ s → HasSame (if s then all else all ++ p ∷ []) (all ++ p ∷ [])
+    by true e = there_already p all e
+    by false e = λ x. refl
 
 -- a path that is passed over
 pub path_passed : (test : List ℕ → Bool) (paths : List (List ℕ)) (i : ℕ) (p : List ℕ) (all whole : List (List ℕ)) → i < length paths → p ≡ get_or paths i p → test p ≡ true → HasSame (all ++ kept_unless test (drop i paths)) whole → HasSame (all ++ kept_unless test (drop (i + 1) paths)) whole

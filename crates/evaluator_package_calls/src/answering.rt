@@ -9,16 +9,15 @@ ghost use Rattle.evaluator_semantics.specs.Globs.{answer_to, found_or_none, make
 ghost use Rattle.values_heap.specs.View.{store_of, Says, SaysItems};
 ghost use Rattle.evaluator_package_calls.specs.GlobResults.{kept_of, kept_unless, found_all, with_unanswered};
 ghost use Rattle.pattern_tables.specs.Excluding.{is_excluded};
-ghost use Rattle.evaluator_package_calls.specs.AnswerTables.{HasTexts};
 
 use crate::answers::Answers;
 use crate::distinct_paths::distinct_paths;
 use crate::ordering::in_order;
+use crate::texts_once::TextsOnce;
 use base_types::{Memory, Text};
 use pattern::Pattern;
 use pattern_tables::Excludes;
 use std::alloc::Global;
-use std::collections::HashSet;
 use values_heap::{Bytes, Halt, Heap, MAX_LENGTH, Object, Val};
 use values_semantics::faults;
 
@@ -80,35 +79,15 @@ fn many_unanswered(
     ensures { IfOk result (λ v. v.items ≡ globs.queries_without_result answers.now []
         questions.now) }
 {
-    let mut seen = HashSet::new(alloc);
-    let mut all = Vec::new(alloc);
-    for question in questions {
-        note_unanswered(&mut seen, &mut all, answers, question)?;
+    let mut once = TextsOnce::new(alloc);
+    'asking: for question in questions {
+        if answers.answer(question).is_some() {
+            continue 'asking;
+        }
+        once.add(question)?;
     }
+    let TextsOnce { all, seen: _ } = once;
     Ok(all)
-}
-
-// Adds a question, unless it has an answer or is one of those that were seen.
-fn note_unanswered(
-    seen: &mut HashSet<Text>,
-    all: &mut Vec<Text>,
-    answers: &Answers,
-    question: &Text,
-) -> Result<(), Memory>
-    requires { HasTexts seen.old all.old.items }
-    ensures added { OnOk result (all.new.items ≡ with_unanswered question.now answers.now
-        all.old.items) }
-    ensures noted { OnOk result (HasTexts seen.new all.new.items) }
-{
-    if answers.answer(question).is_some() {
-        return Ok(());
-    }
-    if seen.contains(question) {
-        return Ok(());
-    }
-    seen.insert(question.share()?)?;
-    all.push(question.share()?)?;
-    Ok(())
 }
 
 /// Returns the paths that the answers to a call's questions have and that no exclude matches, in byte order and without
@@ -160,10 +139,7 @@ fn add_found(
         (found_or_none (answer_to question.now answers.now))) }
 {
     match answers.answer(question) {
-        Some(paths) => {
-            add_paths(all, paths, excludes)?;
-            Ok(())
-        }
+        Some(paths) => add_paths(all, paths, excludes),
         None => Ok(()),
     }
 }

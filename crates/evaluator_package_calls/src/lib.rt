@@ -18,6 +18,7 @@ mod slots;
 mod spelling;
 mod strings;
 mod targets;
+mod texts_once;
 
 pub use answers::{Answers, GlobResult};
 pub use counting::answer_count;

@@ -181,11 +181,11 @@ impl Heap {
 
     /// Refunds the copy that a loop iterated over. The object at the place must have kept its size since `charge_copy`,
     /// and must not have been freed; otherwise the count is wrong, and nothing but the count.
-    pub fn refund_copy(&mut self, place: usize)
+    pub fn refund_copy(&mut self, at: usize)
         ensures same { store_of self.new ≡ store_of self.old }
-        ensures counted { self.new.held ≡ self.old.held - copy_bytes (slice_get self.old.objects place) }
+        ensures held { self.new.held ≡ self.old.held - copy_bytes (slice_get self.old.objects at) }
     {
-        if let Ok(bytes) = self.objects.size_at(place) {
+        if let Ok(bytes) = self.objects.size_at(at) {
             self.release(bytes);
         }
     }

@@ -1,5 +1,5 @@
 //! The objects of a heap: its own, and among them the ranges that are attached to it.
-ghost use Rattle.std.specs.Prelude.{◌≡◌, ◌∷◌, [], ◌++◌, ◌+◌, ◌<◌, ◌^◌, ℕ, List, map, length, option_map, slice_get, slice_set, Some, true, false, IfOk, OnOk, OnErr};
+ghost use Rattle.std.specs.Prelude.{◌≡◌, ◌∷◌, [], ◌++◌, ◌+◌, ◌<◌, ◌^◌, ℕ, List, map, length, option_map, slice_get, slice_set, Some, false, IfOk, OnOk, OnErr};
 ghost use Rattle.std.specs.Arc.{arc_value};
 ghost use Rattle.values_heap.specs.Looks.{seen_object};
 ghost use Rattle.values_heap.specs.MemoryUse.{found_bytes};

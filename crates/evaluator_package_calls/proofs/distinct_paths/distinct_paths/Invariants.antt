@@ -8,6 +8,5 @@ use Rattle.evaluator_package_calls.proofs.distinct_paths.distinct_paths.Given as
 abbrev pub invariant-asking : goal.invariant-asking
 invariant-asking l = record {
   asked : HasTexts l.asked (take l.question-index l.questions);
-  noted : HasTexts l.seen l.all.items;
-  same : HasSame l.all.items (kept_unless (is_excluded l.excludes) (found_all l.answers (take l.question-index l.questions)));
+  same : HasSame l.found.all.items (kept_unless (is_excluded l.excludes) (found_all l.answers (take l.question-index l.questions)));
 }
