@@ -12,7 +12,7 @@ MAKERS = {
         "crates/values_freeze/src/laying.rt",
         "crates/values_heap/src/heap.rt",
         "crates/values_heap/src/objects.rt",
-        "crates/values_heap/src/own_objects.rt",
+        "crates/values_objects/src/own_objects.rt",
         "crates/node_table/src/flat.rt",
         "crates/node_table/src/table.rt",
         "crates/round/src/out_keys.rt",
@@ -20,9 +20,9 @@ MAKERS = {
     },
     "over_the_heap_limit": {"crates/values_heap/src/heap.rt"},
     "object_not_there": {
-        "crates/values_heap/src/heap_object.rt",
         "crates/values_heap/src/objects.rt",
-        "crates/values_heap/src/pages.rt",
+        "crates/values_objects/src/heap_object.rt",
+        "crates/values_objects/src/pages.rt",
     },
     "told_by_library": {
         "crates/loader_commands/src/reading.rt",

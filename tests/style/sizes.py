@@ -26,9 +26,8 @@ LONG = {
     ("crates/evaluator_frames/src/handing.rt", "deliver_value"): 80,
 }
 
-# The crates that are larger, and how many lines of code they may have. The objects of `values_heap`
-# are to become a crate below it.
-LARGE = {"evaluator_frames": 3_400, "values_heap": 1_820}
+# The crates that are larger, and how many lines of code they may have.
+LARGE = {"evaluator_frames": 3_400}
 
 # The lines of a source that are no code: imports, comments and empty lines.
 NO_CODE = re.compile(r"(?ms)^ *(?:pub )?(?:ghost )?use [^;]*;\n|^ *//[^\n]*\n|^ *\n")

@@ -8,8 +8,8 @@ use Rattle.syntax_tree.specs.Tree.{Fn, Suite}
 use Rattle.evaluator_semantics.proofs.Below.{Asks, Below}
 use Rattle.evaluator_package_calls.specs.View.{EndsAs}
 use Rattle.evaluator_state.specs.View.{Ran}
-use Rattle.values_heap.specs.declared.halt.Halt.{Halt}
-use Rattle.values_heap.specs.declared.halt.Halt.TheVariants.{Code, Memory}
+use Rattle.values_objects.specs.declared.halt.Halt.{Halt}
+use Rattle.values_objects.specs.declared.halt.Halt.TheVariants.{Code, Memory}
 use Rattle.evaluator_frames.specs.declared.frame.Control.{Control}
 use Rattle.evaluator_frames.specs.Frames.{Goes, Sig, a_value, an_exit, given_by}
 use Rattle.evaluator.specs.declared.machine.Environment.{Environment}

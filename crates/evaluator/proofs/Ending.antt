@@ -1,8 +1,8 @@
 -- Files that end.
 use Rattle.std.proofs.Common.{◌≡◌, ℕ, List, [], Result, Ok, Err, ap, sym, subst, ◌∙◌}
 use Rattle.base_types.specs.declared.memory.Memory as t
-use Rattle.values_heap.specs.declared.halt.Halt.{Halt}
-use Rattle.values_heap.specs.declared.halt.Halt.TheVariants.{Code, Memory}
+use Rattle.values_objects.specs.declared.halt.Halt.{Halt}
+use Rattle.values_objects.specs.declared.halt.Halt.TheVariants.{Code, Memory}
 use Rattle.values_modules.specs.Values.{ModuleValue}
 use Rattle.evaluator_state.specs.declared.state.Position.{Position}
 use Rattle.evaluator_state.specs.View.{here_of, Ran}

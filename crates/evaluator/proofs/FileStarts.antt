@@ -1,8 +1,8 @@
 -- Files that begin: the leading string and the loads.
 use Rattle.std.proofs.Common.{◌≡◌, ◌<◌, ◌+◌, ℕ, suc, List, ◌∷◌, length, drop, drop-cons, add-one, map, Ok, Err, ap, sym, ◌∙◌}
 use Rattle.std.specs.Prelude.{slice_index_or}
-use Rattle.values_heap.specs.declared.halt.Halt.{Halt}
-use Rattle.values_heap.specs.declared.halt.Halt.TheVariants.{Code, Memory}
+use Rattle.values_objects.specs.declared.halt.Halt.{Halt}
+use Rattle.values_objects.specs.declared.halt.Halt.TheVariants.{Code, Memory}
 use Rattle.values_heap.specs.View.{Says}
 use Rattle.values_semantics.specs.Outcome as o
 use Rattle.values_semantics.specs.Heap.{Store, walks}

@@ -3,7 +3,7 @@ use Rattle.std.proofs.Common.{◌≡◌, ◌≤◌, ◌<◌, ◌+◌, ℕ, Vec, 
 use Rattle.std.specs.Prelude.{IfOk, OnErr}
 use Rattle.std.specs.declared.sync.Arc.{Arc}
 use Rattle.base_types.specs.declared.text.Text.{Text}
-use Rattle.values_heap.specs.declared.halt.Halt.{Halt}
+use Rattle.values_objects.specs.declared.halt.Halt.{Halt}
 use Rattle.values_semantics.specs.declared.val.Val.{Val}
 use Rattle.values_semantics.specs.declared.builtin.Builtin.{Builtin}
 use Rattle.syntax_tree.specs.declared.expr.Expr.{Expr}

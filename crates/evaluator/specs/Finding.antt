@@ -14,8 +14,8 @@ use Rattle.evaluator_semantics.specs.Environment.{Env, path_of, functions_of, fu
 use Rattle.evaluator_semantics.specs.Arguments.{arguments}
 use Rattle.evaluator_semantics.specs.Statements.{Exit, suite}
 use Rattle.evaluator_semantics.specs.Calls.{call, is_running, inside, body_does}
-use Rattle.values_heap.specs.declared.halt.Halt.{Halt}
-use Rattle.values_heap.specs.declared.halt.Halt.TheVariants.{Code, Memory}
+use Rattle.values_objects.specs.declared.halt.Halt.{Halt}
+use Rattle.values_objects.specs.declared.halt.Halt.TheVariants.{Code, Memory}
 use Rattle.values_semantics.specs.Heap.{Obj, function}
 use Rattle.values_semantics.specs.declared.faults.TheConstants.{RECURSION, WRONG_TYPE}
 use Rattle.evaluator_semantics.specs.Expressions.{Call, call_object}

@@ -1,8 +1,8 @@
 -- What a machine in the middle of a file means, and how far a turn of it leads.
 use Rattle.std.specs.Prelude.{◌≡◌, ◌<◌, ℕ, ◌+◌, List, Result, Ok, Err}
 use Rattle.std.specs.Arc.{arc_value}
-use Rattle.values_heap.specs.declared.halt.Halt.{Halt}
-use Rattle.values_heap.specs.declared.halt.Halt.TheVariants.{Code, Memory}
+use Rattle.values_objects.specs.declared.halt.Halt.{Halt}
+use Rattle.values_objects.specs.declared.halt.Halt.TheVariants.{Code, Memory}
 use Rattle.syntax_tree.specs.Statements.{file_of}
 use Rattle.evaluator_semantics.specs.World.{Here, Site, Ends, ended, failed, waits}
 use Rattle.evaluator_semantics.specs.Environment.{Env, Answers}

@@ -1,6 +1,6 @@
 //! How a call of a function of a file begins, and how it ends.
 ghost use Rattle.std.specs.Prelude.{◌≡◌, ◌≤◌, ◌<◌, ◌+◌, ◌++◌, ◌∷◌, [], ℕ, IfOk, OnErr, IsOkUnless};
-ghost use Rattle.values_heap.specs.declared.halt.Halt.TheVariants.{Memory};
+ghost use Rattle.values_objects.specs.declared.halt.Halt.TheVariants.{Memory};
 ghost use Rattle.evaluator_state.specs.View.{world_of};
 ghost use Rattle.evaluator_semantics.specs.Calls.{call};
 ghost use Rattle.evaluator_semantics.specs.Expressions.{call_object};

@@ -1,6 +1,6 @@
 //! Where the function of an object stands.
 ghost use Rattle.std.specs.Prelude.{map, IfOk, IsOkUnless, Option, Some, None, option_map};
-ghost use Rattle.values_heap.specs.declared.halt.Halt.TheVariants.{Memory};
+ghost use Rattle.values_objects.specs.declared.halt.Halt.TheVariants.{Memory};
 ghost use Rattle.syntax_tree.specs.Statements.{top_of};
 ghost use Rattle.std.specs.Arc.{arc_value};
 ghost use Rattle.evaluator_semantics.specs.Environment.{defs, function_named};

@@ -6,7 +6,7 @@ use Rattle.values_semantics.specs.Outcome.{Out, gives, faults, Does, and_then}
 use Rattle.values_semantics.specs.Heap.{Store, Entries}
 use Rattle.values_semantics.specs.Freezing as f
 use Rattle.values_semantics.specs.Freezing.{Fz, Fzs, Pairs, thaw, thaw_members, thaw_pairs}
-use Rattle.values_heap.specs.declared.halt.Halt.{Halt}
+use Rattle.values_objects.specs.declared.halt.Halt.{Halt}
 use Rattle.values_heap.specs.View.{Says}
 
 abbrev StepsAt : {A : Type 0} → ℕ → Out Store A → Type 0

@@ -5,8 +5,8 @@ use Rattle.values_semantics.specs.declared.val.Val.{Val}
 use Rattle.values_semantics.specs.Outcome.{Out, gives, faults, Does, and_then}
 use Rattle.values_semantics.specs.Heap.{Store}
 use Rattle.values_semantics.specs.Freezing.{Fz, thaw, thaw_members}
-use Rattle.values_heap.specs.declared.halt.Halt.{Halt}
-use Rattle.values_heap.specs.declared.halt.Halt.TheVariants.{Code, Memory}
+use Rattle.values_objects.specs.declared.halt.Halt.{Halt}
+use Rattle.values_objects.specs.declared.halt.Halt.TheVariants.{Code, Memory}
 use Rattle.evaluator_state.specs.View.{Ran}
 use Rattle.values_modules.specs.Values.{Frozen, Defaults, Body, ModuleValue}
 use Rattle.evaluator_semantics.specs.World.{World, Block, Here, Ends, ended, failed, waits, at_site, then_runs, pure, or_fault, on_heap, ◌>>=◌}

@@ -8,8 +8,8 @@ use Rattle.values_semantics.specs.Heap.{Store, walks}
 use Rattle.values_semantics.specs.Freezing.{Fzs, freezes, freeze, freeze_members}
 use Rattle.values_semantics.specs.declared.faults.TheConstants.{NOT_BOUND}
 use Rattle.syntax_tree.specs.Tree.{Fn}
-use Rattle.values_heap.specs.declared.halt.Halt.{Halt}
-use Rattle.values_heap.specs.declared.halt.Halt.TheVariants.{Code, Memory}
+use Rattle.values_objects.specs.declared.halt.Halt.{Halt}
+use Rattle.values_objects.specs.declared.halt.Halt.TheVariants.{Code, Memory}
 use Rattle.values_freeze.specs.declared.value.FrozenValue.{FrozenValue}
 use Rattle.values_freeze.specs.View.{members_of}
 use Rattle.values_modules.specs.Values.{Frozen, Defaults}

@@ -6,8 +6,8 @@ use Rattle.values_semantics.specs.declared.val.Val.{Val}
 use Rattle.values_semantics.specs.Outcome.{Out, Does, gives, faults, and_then, pure, ◌>>=◌}
 use Rattle.values_semantics.specs.Heap.{Store}
 use Rattle.values_semantics.specs.Freezing.{thaw, thaw_members}
-use Rattle.values_heap.specs.declared.halt.Halt.{Halt}
-use Rattle.values_heap.specs.declared.halt.Halt.TheVariants.{Code, Memory}
+use Rattle.values_objects.specs.declared.halt.Halt.{Halt}
+use Rattle.values_objects.specs.declared.halt.Halt.TheVariants.{Code, Memory}
 use Rattle.values_modules.specs.Values.{Frozen, Defaults}
 use Rattle.evaluator_semantics.specs.World.{Block}
 use Rattle.evaluator_state.specs.declared.state.FunctionDefaults.{FunctionDefaults}

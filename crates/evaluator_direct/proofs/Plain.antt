@@ -12,7 +12,7 @@ use Rattle.syntax_grammar.specs.declared.kind.FileKind.{FileKind}
 use Rattle.syntax_grammar.specs.declared.kind.FileKind.TheVariants as k
 use Rattle.syntax_tree.specs.Tree as t
 use Rattle.syntax_tree.specs.Tree.{Ex}
-use Rattle.values_heap.specs.declared.halt.Halt.{Halt}
+use Rattle.values_objects.specs.declared.halt.Halt.{Halt}
 use Rattle.values_semantics.specs.declared.val.Val.{Val}
 use Rattle.values_semantics.specs.Outcome as o
 use Rattle.values_semantics.specs.Heap.{Store, walks}

@@ -1,8 +1,8 @@
 -- How pieces of an evaluation go on one after another.
 use Rattle.std.proofs.Common.{◌≡◌, ◌≤◌, ◌++◌, ℕ, zero, suc, length, drop, arith, List, [], ◌∷◌, Bool, true, false, Some, Result, Ok, Err, refl, ap, sym, subst, ◌∙◌}
 use Rattle.std.specs.Prelude.{◌&&◌, if◌then◌else◌}
-use Rattle.values_heap.specs.declared.halt.Halt.{Halt}
-use Rattle.values_heap.specs.declared.halt.Halt.TheVariants.{Code, Memory}
+use Rattle.values_objects.specs.declared.halt.Halt.{Halt}
+use Rattle.values_objects.specs.declared.halt.Halt.TheVariants.{Code, Memory}
 use Rattle.values_heap.specs.View.{Says}
 use Rattle.values_semantics.specs.declared.val.Val.{Val}
 use Rattle.values_semantics.specs.Outcome as o

@@ -1,7 +1,7 @@
 -- How far a statement leads that is run at once: it goes on, or stops at a fault; with another one nothing is done.
 use Rattle.std.specs.Prelude.{◌≡◌, ◌<◌, ℕ, Bool, true, false, if◌then◌else◌, Option, None, Some, Result, Ok, Err}
-use Rattle.values_heap.specs.declared.halt.Halt.{Halt}
-use Rattle.values_heap.specs.declared.halt.Halt.TheVariants.{Code, Memory}
+use Rattle.values_objects.specs.declared.halt.Halt.{Halt}
+use Rattle.values_objects.specs.declared.halt.Halt.TheVariants.{Code, Memory}
 use Rattle.syntax_tree.specs.declared.expr.BinaryOp.{BinaryOp}
 use Rattle.syntax_tree.specs.Tree as t
 use Rattle.syntax_tree.specs.Tree.{Ex, St, Branches}

@@ -1,7 +1,7 @@
 -- Augmented assignments by other operators than `+`.
 use Rattle.std.proofs.Common.{◌≡◌, Err, refl, ap}
-use Rattle.values_heap.specs.declared.halt.Halt.{Halt}
-use Rattle.values_heap.specs.declared.halt.Halt.TheVariants.{Code, Memory}
+use Rattle.values_objects.specs.declared.halt.Halt.{Halt}
+use Rattle.values_objects.specs.declared.halt.Halt.TheVariants.{Code, Memory}
 use Rattle.values_semantics.specs.declared.val.Val.{Val}
 use Rattle.values_semantics.specs.Binary.{binary}
 use Rattle.syntax_tree.specs.declared.expr.BinaryOp.{BinaryOp}

@@ -2,8 +2,8 @@
 use Rattle.std.proofs.Common.{◌≡◌, ℕ, List, [], ◌∷◌, drop, Some, Result, Ok, Err, IfOk, ap, sym, ◌∙◌}
 use Rattle.std.specs.Prelude.{slice_get, IsOkUnless}
 use Rattle.std.specs.Arc.{arc_value}
-use Rattle.values_heap.specs.declared.halt.Halt.{Halt}
-use Rattle.values_heap.specs.declared.halt.Halt.TheVariants.{Code, Memory}
+use Rattle.values_objects.specs.declared.halt.Halt.{Halt}
+use Rattle.values_objects.specs.declared.halt.Halt.TheVariants.{Code, Memory}
 use Rattle.values_semantics.specs.declared.val.Val.{Val}
 use Rattle.syntax_tree.specs.Tree as t
 use Rattle.syntax_tree.specs.Tree.{Ex, Cl}

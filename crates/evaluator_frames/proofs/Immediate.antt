@@ -1,7 +1,7 @@
 -- What stands behind an expression whose value is known at once.
 use Rattle.std.proofs.Common.{Err, ap}
-use Rattle.values_heap.specs.declared.halt.Halt.{Halt}
-use Rattle.values_heap.specs.declared.halt.Halt.TheVariants.{Code, Memory}
+use Rattle.values_objects.specs.declared.halt.Halt.{Halt}
+use Rattle.values_objects.specs.declared.halt.Halt.TheVariants.{Code, Memory}
 use Rattle.values_semantics.specs.declared.val.Val.{Val}
 use Rattle.evaluator_semantics.specs.World.{Site, World, Ends, Runs, then_runs}
 use Rattle.evaluator_frames.specs.declared.frame.Control.{Control}

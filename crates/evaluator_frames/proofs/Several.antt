@@ -10,8 +10,8 @@ use Rattle.evaluator_semantics.specs.World.{World, Site, Here, Ends, ended, fail
 use Rattle.evaluator_semantics.specs.Environment.{Env}
 use Rattle.evaluator_semantics.specs.Expressions.{values}
 use Rattle.evaluator_semantics.specs.Calls.{call}
-use Rattle.values_heap.specs.declared.halt.Halt.{Halt}
-use Rattle.values_heap.specs.declared.halt.Halt.TheVariants.{Code, Memory}
+use Rattle.values_objects.specs.declared.halt.Halt.{Halt}
+use Rattle.values_objects.specs.declared.halt.Halt.TheVariants.{Code, Memory}
 use Rattle.evaluator_state.specs.View.{RanItems}
 use Rattle.evaluator_frames.specs.declared.frame.Control.{Control}
 use Rattle.evaluator_frames.specs.declared.frame.Frame.{Frame}

@@ -1,7 +1,7 @@
 -- Suites, branches and loops, one part after another.
 use Rattle.std.proofs.Common.{◌≡◌, ℕ, List, Err, refl, ap}
-use Rattle.values_heap.specs.declared.halt.Halt.{Halt}
-use Rattle.values_heap.specs.declared.halt.Halt.TheVariants.{Code, Memory}
+use Rattle.values_objects.specs.declared.halt.Halt.{Halt}
+use Rattle.values_objects.specs.declared.halt.Halt.TheVariants.{Code, Memory}
 use Rattle.values_heap.specs.View.{Says}
 use Rattle.values_semantics.specs.Outcome.{Out}
 use Rattle.values_semantics.specs.Heap.{Store}

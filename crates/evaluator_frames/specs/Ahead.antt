@@ -7,8 +7,8 @@ use Rattle.std.specs.Arc.{arc_value}
 use Rattle.syntax_tree.specs.Tree as t
 use Rattle.syntax_tree.specs.Tree.{Ex, St, Bound}
 use Rattle.syntax_tree.specs.declared.stmt.Stmt.{Stmt}
-use Rattle.values_heap.specs.declared.halt.Halt.{Halt}
-use Rattle.values_heap.specs.declared.halt.Halt.TheVariants.{Code, Memory}
+use Rattle.values_objects.specs.declared.halt.Halt.{Halt}
+use Rattle.values_objects.specs.declared.halt.Halt.TheVariants.{Code, Memory}
 use Rattle.evaluator_semantics.specs.World.{World, Here, Ends, ended, failed, Runs, then_runs, pure}
 use Rattle.evaluator_semantics.specs.Environment.{Env}
 use Rattle.evaluator_semantics.specs.Statements.{Exit, goes_on, unless_over}

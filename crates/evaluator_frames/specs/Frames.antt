@@ -31,8 +31,8 @@ use Rattle.values_semantics.specs.Indexing.{index, slice}
 use Rattle.values_semantics.specs.Binary.{binary}
 use Rattle.values_semantics.specs.Functions.{builtin}
 use Rattle.values_semantics.specs.Methods.{method}
-use Rattle.values_heap.specs.declared.halt.Halt.{Halt}
-use Rattle.values_heap.specs.declared.halt.Halt.TheVariants.{Code, Memory}
+use Rattle.values_objects.specs.declared.halt.Halt.{Halt}
+use Rattle.values_objects.specs.declared.halt.Halt.TheVariants.{Code, Memory}
 use Rattle.evaluator_semantics.specs.World.{Site, Here, at_line, Ends, ended, failed, Runs, ◌>>=◌, pure, fault, on_heap, tick, by_truth, in_block, with_blocks, without_block}
 use Rattle.evaluator_semantics.specs.Names.{new_block, clause_names, bind}
 use Rattle.evaluator_semantics.specs.Environment.{Env}

@@ -1,6 +1,6 @@
 -- How a step leads on, and what it costs.
 use Rattle.std.specs.Prelude.{◌≡◌, ◌+◌, ◌≤◌, ℕ, List, Result, IfOk}
-use Rattle.values_heap.specs.declared.halt.Halt.{Halt}
+use Rattle.values_objects.specs.declared.halt.Halt.{Halt}
 use Rattle.evaluator_semantics.specs.World.{Here, Ends}
 use Rattle.evaluator_semantics.specs.Environment.{Env}
 use Rattle.evaluator_state.specs.View.{world_of, here_of}

@@ -1,8 +1,8 @@
 -- How far an expression leads whose value is known at once.
 use Rattle.std.specs.Prelude.{◌≡◌, ◌<◌, Option, Some, None, Result, Ok, Err}
 use Rattle.values_semantics.specs.declared.val.Val.{Val}
-use Rattle.values_heap.specs.declared.halt.Halt.{Halt}
-use Rattle.values_heap.specs.declared.halt.Halt.TheVariants.{Code, Memory}
+use Rattle.values_objects.specs.declared.halt.Halt.{Halt}
+use Rattle.values_objects.specs.declared.halt.Halt.TheVariants.{Code, Memory}
 use Rattle.evaluator_semantics.specs.World.{Site, World, Ends, ended, failed}
 use Rattle.evaluator_state.specs.declared.state.State.{State}
 

@@ -7,7 +7,7 @@ ghost use Rattle.evaluator_semantics.specs.Statements as s;
 ghost use Rattle.evaluator_semantics.specs.Statements.{exec};
 ghost use Rattle.evaluator_semantics.specs.Environment.{Env};
 ghost use Rattle.evaluator_state.specs.View.{world_of, here_of};
-ghost use Rattle.values_heap.specs.declared.halt.Halt.TheVariants as h;
+ghost use Rattle.values_objects.specs.declared.halt.Halt.TheVariants as h;
 ghost use Rattle.evaluator_semantics.specs.World.{World, Here, Ends, then_runs};
 ghost use Rattle.evaluator_frames.specs.Frames.{body, shared_suite, suite_from, stack_does, machine_does};
 ghost use Rattle.evaluator_frames.specs.Weight.{frames_weight, control_weight};

@@ -1,6 +1,6 @@
 //! What a frame does with the value that it waits for, where nothing is begun, and with what a target aims at.
 ghost use Rattle.std.specs.Prelude.{◌≡◌, ◌≤◌, ◌+◌, ℕ, List, length, IfOk, IsOkUnless};
-ghost use Rattle.values_heap.specs.declared.halt.Halt.TheVariants.{Memory};
+ghost use Rattle.values_objects.specs.declared.halt.Halt.TheVariants.{Memory};
 ghost use Rattle.evaluator_semantics.specs.World.{World, Here};
 ghost use Rattle.evaluator_semantics.specs.Environment.{Env};
 ghost use Rattle.evaluator_state.specs.View.{world_of, here_of};

@@ -1,7 +1,7 @@
 //! How the forms of expressions begin, behind the step that each takes.
 ghost use Rattle.std.specs.Prelude.{◌≡◌, ◌≤◌, ℕ, List, [], IfOk, IsOkUnless};
 ghost use Rattle.std.specs.Arc.{arc_value};
-ghost use Rattle.values_heap.specs.declared.halt.Halt.TheVariants.{Memory};
+ghost use Rattle.values_objects.specs.declared.halt.Halt.TheVariants.{Memory};
 ghost use Rattle.values_semantics.specs.Heap.{makes_text};
 ghost use Rattle.evaluator_semantics.specs.World.{World, Here, on_heap};
 ghost use Rattle.evaluator_semantics.specs.Names.{is_native_name};

@@ -1,6 +1,6 @@
 //! Statements that leave their suite at once, and statements behind which none stands.
 ghost use Rattle.std.specs.Prelude.{◌≡◌, ◌<◌, ◌+◌, ℕ, List, true, IfOk, IsOkUnless};
-ghost use Rattle.values_heap.specs.declared.halt.Halt.TheVariants as h;
+ghost use Rattle.values_objects.specs.declared.halt.Halt.TheVariants as h;
 ghost use Rattle.evaluator_semantics.specs.World.{Here, Ends, then_runs, tick, pure};
 ghost use Rattle.evaluator_semantics.specs.Environment.{Env};
 ghost use Rattle.evaluator_semantics.specs.Calls.{call};

@@ -1,6 +1,6 @@
 //! What begins with nothing done: items, entries and loops.
 ghost use Rattle.std.specs.Prelude.{◌≡◌, ◌<◌, ◌+◌, ◌^◌, ℕ, List, [], IfOk, IsOkUnless};
-ghost use Rattle.values_heap.specs.declared.halt.Halt.TheVariants.{Memory};
+ghost use Rattle.values_objects.specs.declared.halt.Halt.TheVariants.{Memory};
 ghost use Rattle.std.specs.Arc.{arc_value};
 ghost use Rattle.evaluator_semantics.specs.World.{World, Here};
 ghost use Rattle.evaluator_semantics.specs.Environment.{Env};

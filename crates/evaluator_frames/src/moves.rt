@@ -2,7 +2,7 @@
 ghost use Rattle.std.specs.Prelude.{◌≡◌, ◌+◌, ◌++◌, [], ◌∷◌, ℕ, List, true, false, IfOk, IsOkUnless};
 ghost use Rattle.evaluator_semantics.specs.Environment.{Env};
 ghost use Rattle.evaluator_state.specs.View.{world_of, here_of};
-ghost use Rattle.values_heap.specs.declared.halt.Halt.TheVariants.{Memory};
+ghost use Rattle.values_objects.specs.declared.halt.Halt.TheVariants.{Memory};
 ghost use Rattle.evaluator_frames.specs.Going.{GetsLighter, LeadsOn};
 ghost use Rattle.evaluator_frames.specs.Frames.{Goes, on, sig_of, frame_does, frame_line, is_leave, is_within, above, machine_does};
 ghost use Rattle.evaluator_frames.specs.Weight.{frames_weight, frame_weight, control_weight};

@@ -1,6 +1,6 @@
 //! Expressions whose value is known at once.
 ghost use Rattle.std.specs.Prelude.{◌≡◌, ◌≤◌, ◌<◌, ◌+◌, ◌++◌, ◌∷◌, [], ℕ, List, length, IfOk, IsOkUnless};
-ghost use Rattle.values_heap.specs.declared.halt.Halt.TheVariants.{Memory};
+ghost use Rattle.values_objects.specs.declared.halt.Halt.TheVariants.{Memory};
 ghost use Rattle.values_semantics.specs.Binary.{binary};
 ghost use Rattle.evaluator_semantics.specs.World.{World, Here, Ends, then_runs, on_heap};
 ghost use Rattle.evaluator_semantics.specs.Environment.{Env};

@@ -1,6 +1,6 @@
 //! What waits, on a stack.
 ghost use Rattle.std.specs.Prelude.{◌≡◌, ◌+◌, ℕ, OnOk, IfOk, IsOkUnless};
-ghost use Rattle.values_heap.specs.declared.halt.Halt.TheVariants.{Memory};
+ghost use Rattle.values_objects.specs.declared.halt.Halt.TheVariants.{Memory};
 ghost use Rattle.evaluator_semantics.specs.World.{World, Here, then_runs};
 ghost use Rattle.evaluator_semantics.specs.Environment.{Env};
 ghost use Rattle.syntax_tree.specs.View.{shared_tree};

@@ -1,6 +1,6 @@
 //! How targets go on: their operands are evaluated from left to right.
 ghost use Rattle.std.specs.Prelude.{◌≡◌, ◌<◌, ◌+◌, ℕ, List, IfOk, IsOkUnless};
-ghost use Rattle.values_heap.specs.declared.halt.Halt.TheVariants.{Memory};
+ghost use Rattle.values_objects.specs.declared.halt.Halt.TheVariants.{Memory};
 ghost use Rattle.evaluator_semantics.specs.World.{World, Here, then_runs};
 ghost use Rattle.evaluator_semantics.specs.Environment.{Env};
 ghost use Rattle.syntax_tree.specs.View.{tree_of, shared_tree};

@@ -1,8 +1,8 @@
 -- How a call of a rule ends, by the target that it describes.
 use Rattle.std.proofs.Common.{◌≡◌, ℕ, Bool, cond, not, map, refl, List, [], ◌∷◌, ◌++◌, true, false, Err, ap, sym, ◌∙◌}
 use Rattle.std.specs.Prelude.{if◌then◌else◌}
-use Rattle.values_heap.specs.declared.halt.Halt.{Halt}
-use Rattle.values_heap.specs.declared.halt.Halt.TheVariants.{Code, Memory}
+use Rattle.values_objects.specs.declared.halt.Halt.{Halt}
+use Rattle.values_objects.specs.declared.halt.Halt.TheVariants.{Code, Memory}
 use Rattle.values_semantics.specs.declared.val.Val.{Val}
 use Rattle.values_semantics.specs.declared.val.Val.TheVariants as v
 use Rattle.values_semantics.specs.declared.builtin.Builtin.{Builtin}

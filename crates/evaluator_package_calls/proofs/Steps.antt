@@ -8,8 +8,8 @@ use Rattle.values_semantics.specs.declared.val.Val.{Val}
 use Rattle.values_semantics.specs.Heap.{Store}
 use Rattle.values_semantics.specs.Methods.{bytes_of}
 use Rattle.values_semantics.specs.Outcome.{ValueOrFault, good, bad, then_checked}
-use Rattle.values_heap.specs.declared.halt.Halt.{Halt}
-use Rattle.values_heap.specs.declared.halt.Halt.TheVariants.{Code, Memory}
+use Rattle.values_objects.specs.declared.halt.Halt.{Halt}
+use Rattle.values_objects.specs.declared.halt.Halt.TheVariants.{Code, Memory}
 use Rattle.values_heap.specs.View.{Checks, ChecksItems}
 use Rattle.values_modules.specs.Values.{Attribute}
 use Rattle.evaluator_semantics.specs.Globs.{all_texts}

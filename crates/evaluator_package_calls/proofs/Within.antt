@@ -5,8 +5,8 @@ use Rattle.values_semantics.specs.declared.val.Val.{Val}
 use Rattle.values_semantics.specs.declared.builtin.Builtin.{Builtin}
 use Rattle.values_semantics.specs.declared.builtin.Builtin.TheVariants as b
 use Rattle.values_semantics.specs.Functions.{KeywordArguments}
-use Rattle.values_heap.specs.declared.halt.Halt.{Halt}
-use Rattle.values_heap.specs.declared.halt.Halt.TheVariants.{Code, Memory}
+use Rattle.values_objects.specs.declared.halt.Halt.{Halt}
+use Rattle.values_objects.specs.declared.halt.Halt.TheVariants.{Code, Memory}
 use Rattle.evaluator_semantics.specs.World.{World, Site, Here, Ends, Runs, failed}
 use Rattle.evaluator_semantics.specs.Environment.{Env, Answers}
 use Rattle.evaluator_semantics.specs.Packages.{package_call, in_package, if_build}

@@ -1,7 +1,7 @@
 -- What the arguments and the results of package calls in memory are to the definitions.
 use Rattle.std.specs.Prelude.{◌≡◌, Result, Ok, Err}
-use Rattle.values_heap.specs.declared.halt.Halt.{Halt}
-use Rattle.values_heap.specs.declared.halt.Halt.TheVariants.{Code, Memory}
+use Rattle.values_objects.specs.declared.halt.Halt.{Halt}
+use Rattle.values_objects.specs.declared.halt.Halt.TheVariants.{Code, Memory}
 use Rattle.values_semantics.specs.declared.val.Val.{Val}
 use Rattle.values_semantics.specs.Outcome.{ValueOrFault, good, bad}
 use Rattle.evaluator_semantics.specs.World.{World, Site, Ends, ended, failed, waits}

@@ -1,7 +1,7 @@
 -- What works on the heap alone, as a piece of an evaluation; and that it leaves no more steps.
 use Rattle.std.proofs.Common.{◌≡◌, ◌≤◌, ◌++◌, ℕ, suc, List, [], ◌∷◌, length, Bool, true, false, cond, Some, is_some, Result, Ok, Err, refl, ap}
 use Rattle.std.specs.Prelude.{IfOk}
-use Rattle.values_heap.specs.declared.halt.Halt.{Halt}
+use Rattle.values_objects.specs.declared.halt.Halt.{Halt}
 use Rattle.values_heap.specs.View.{Says}
 use Rattle.values_semantics.specs.declared.key.Part.{Part}
 use Rattle.values_semantics.specs.declared.val.Entry.{Entry}

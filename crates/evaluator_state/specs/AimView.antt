@@ -6,8 +6,8 @@ use Rattle.values_semantics.specs.Outcome.{Out, Does, gives, faults, fault, pure
 use Rattle.values_semantics.specs.Indexing.{hash}
 use Rattle.values_semantics.specs.Comparing.{entry_at}
 use Rattle.values_semantics.specs.declared.faults.TheConstants.{WRONG_ARGUMENTS}
-use Rattle.values_heap.specs.declared.halt.Halt.{Halt}
-use Rattle.values_heap.specs.declared.halt.Halt.TheVariants.{Code, Memory}
+use Rattle.values_objects.specs.declared.halt.Halt.{Halt}
+use Rattle.values_objects.specs.declared.halt.Halt.TheVariants.{Code, Memory}
 use Rattle.evaluator_semantics.specs.World.{World, Site, Ends, ended, failed}
 use Rattle.evaluator_semantics.specs.Targets as t
 use Rattle.evaluator_semantics.specs.Targets.{Aims, no_aims, aim_at, to_name, to_member, to_each}

@@ -1,6 +1,6 @@
 //! Calls that evaluate no expression of a file.
 ghost use Rattle.std.specs.Prelude.{◌≡◌, ◌≤◌, ◌-◌, IfOk, IsOkUnless};
-ghost use Rattle.values_heap.specs.declared.halt.Halt.TheVariants.{Memory};
+ghost use Rattle.values_objects.specs.declared.halt.Halt.TheVariants.{Memory};
 ghost use Rattle.values_heap.specs.View.{store_of, Says};
 ghost use Rattle.values_semantics.specs.Functions as m;
 ghost use Rattle.values_semantics.specs.Methods as mm;

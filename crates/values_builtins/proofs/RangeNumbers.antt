@@ -12,7 +12,7 @@ use Rattle.values_semantics.specs.Numbers.{floor_div}
 use Rattle.values_semantics.specs.Outcome.{fault}
 use Rattle.values_semantics.specs.Heap.{Store, list, makes, makes_list, is_sized}
 use Rattle.values_semantics.specs.Functions.{count_to, range_count, range_list, numbers}
-use Rattle.values_heap.specs.declared.halt.Halt.{Halt}
+use Rattle.values_objects.specs.declared.halt.Halt.{Halt}
 use Rattle.values_heap.specs.View.{Says}
 use Rattle.values_builtins.specs.Spans.{lies_before}
 

@@ -8,8 +8,8 @@ use Rattle.std.proofs.lemmas.List.{append-nil}
 use Rattle.values_semantics.specs.Outcome.{Out, gives, faults, and_then}
 use Rattle.values_semantics.specs.Heap.{Store, makes_tuple}
 use Rattle.values_semantics.specs.Functions.{heads, rows, zipped, makes_tuples}
-use Rattle.values_heap.specs.declared.halt.Halt.{Halt}
-use Rattle.values_heap.specs.declared.halt.Halt.TheVariants.{Code, Memory}
+use Rattle.values_objects.specs.declared.halt.Halt.{Halt}
+use Rattle.values_objects.specs.declared.halt.Halt.TheVariants.{Code, Memory}
 use Rattle.values_heap.specs.View.{Says, SaysItems}
 use Rattle.values_builtins.specs.Results.{lists_of}
 

@@ -7,8 +7,8 @@ use Rattle.std.proofs.lemmas.Bool.{leb-true, le-leb}
 use Rattle.values_semantics.specs.Outcome.{Out, gives, faults, Does, and_then, pure, fault, tick}
 use Rattle.values_semantics.specs.Heap.{text, is_sized, makes, makes_text}
 use Rattle.values_semantics.specs.Printing.{following, separated, enclosed, container, plain, escaped, all_escaped, quoted}
-use Rattle.values_heap.specs.declared.halt.Halt.{Halt}
-use Rattle.values_heap.specs.declared.halt.Halt.TheVariants.{Code, Memory}
+use Rattle.values_objects.specs.declared.halt.Halt.{Halt}
+use Rattle.values_objects.specs.declared.halt.Halt.TheVariants.{Code, Memory}
 use Rattle.values_builtins.specs.declared.text_buffer.TextBuffer.{TextBuffer}
 use Rattle.values_builtins.specs.TextBuffers.{keep, text_so_far, more, text_after, before, Tells}
 

@@ -6,8 +6,8 @@ use denote.Ref.{Bor}
 use Rattle.values_semantics.specs.Outcome.{Out, gives, faults, ValueOrFault, good, bad}
 use Rattle.values_semantics.specs.declared.val.Val.{Val}
 use Rattle.values_semantics.specs.Heap.{Entries}
-use Rattle.values_heap.specs.declared.halt.Halt.{Halt}
-use Rattle.values_heap.specs.declared.halt.Halt.TheVariants.{Code, Memory}
+use Rattle.values_objects.specs.declared.halt.Halt.{Halt}
+use Rattle.values_objects.specs.declared.halt.Halt.TheVariants.{Code, Memory}
 
 -- the bytes, or the code of the fault; if an allocation fails, nothing is said
 abbrev pub ChecksBytes : ValueOrFault (List ℕ) → Result (Bor (List ℕ)) Halt → Type 0

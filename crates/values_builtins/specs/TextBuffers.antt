@@ -3,8 +3,8 @@
 use Rattle.std.specs.Prelude.{◌≡◌, ℕ, zero, suc, List, [], ◌++◌, length, Option, Some, None, Result, Ok, Err, if◌then◌else◌, codes}
 use Rattle.values_semantics.specs.Outcome.{Out, gives, faults, Does, and_then}
 use Rattle.values_semantics.specs.Heap.{is_sized}
-use Rattle.values_heap.specs.declared.halt.Halt.{Halt}
-use Rattle.values_heap.specs.declared.halt.Halt.TheVariants.{Code, Memory}
+use Rattle.values_objects.specs.declared.halt.Halt.{Halt}
+use Rattle.values_objects.specs.declared.halt.Halt.TheVariants.{Code, Memory}
 use Rattle.values_builtins.specs.declared.text_buffer.TextBuffer.{TextBuffer}
 
 abbrev pub keep : List ℕ → Option (List ℕ)

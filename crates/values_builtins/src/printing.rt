@@ -2,7 +2,7 @@
 ghost use Rattle.values_semantics.specs.Builtins.{builtin_name};
 ghost use Rattle.std.specs.Prelude.{◌≡◌, ◌++◌, map, slice_get, codes, OnOk};
 ghost use Rattle.values_semantics.specs.Printing.{print, inner_print, visit_shown, print_shape, listed, tupled, mapped, separated, container, plain, int_text, entry_text, pair_text, tuple_end, quoted};
-ghost use Rattle.values_heap.specs.View.{object_in};
+ghost use Rattle.values_objects.specs.Standings.{object_in};
 ghost use Rattle.values_builtins.specs.TextBuffers.{text_so_far, more, before, Tells};
 
 use crate::quoting::write_quoted;

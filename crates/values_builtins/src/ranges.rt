@@ -3,8 +3,8 @@ ghost use Rattle.std.specs.Prelude.{◌≡◌, pos, IfSome};
 ghost use Rattle.values_semantics.specs.Heap.{makes_list};
 ghost use Rattle.values_semantics.specs.Functions.{range, range_by, range_list, range_count, numbers};
 ghost use Rattle.values_heap.specs.View.{store_of, Says};
-ghost use Rattle.values_heap.specs.ListSizes.{SizedAs};
-ghost use Rattle.values_heap.specs.Numbers.{shown};
+ghost use Rattle.values_objects.specs.ListSizes.{SizedAs};
+ghost use Rattle.values_objects.specs.Numbers.{shown};
 ghost use Rattle.values_builtins.specs.Spans.{lies_before, IsNonzero};
 
 use std::alloc::Global;

@@ -8,8 +8,8 @@ use Rattle.values_semantics.specs.declared.val.Entry.{Entry}
 use Rattle.values_semantics.specs.Outcome.{Out, gives, faults, Does, and_then, ◌>>=◌, ◌>>◌, pure, tick}
 use Rattle.values_semantics.specs.Heap.{Obj, Entries}
 use Rattle.values_semantics.specs.Freezing.{Fz, Fzs, Pairs, list, tuple, dict, member, pair, freeze, inner_freeze, visit_held, held, listed, tupled, mapped, freeze_members, freeze_entry, freeze_entries}
-use Rattle.values_heap.specs.declared.halt.Halt.{Halt}
-use Rattle.values_heap.specs.declared.halt.Halt.TheVariants.{Code, Memory}
+use Rattle.values_objects.specs.declared.halt.Halt.{Halt}
+use Rattle.values_objects.specs.declared.halt.Halt.TheVariants.{Code, Memory}
 use Rattle.values_freeze.specs.View.{onto, pairs_onto, SaysFrozen, SaysMembers, SaysEntry, SaysEntries}
 
 pub freeze_is : (n : ℕ) (heap : List Obj) (x : Val) (s : ℕ) → freeze n heap x s ≡ visit_held (inner_freeze n heap) (held heap x) s

@@ -6,8 +6,8 @@ use Rattle.std.specs.declared.vec.Vec.{Vec}
 use Rattle.values_semantics.specs.Outcome.{Out, gives, faults}
 use Rattle.values_semantics.specs.Heap.{Entries}
 use Rattle.values_semantics.specs.Freezing.{Fz, Fzs, Pairs, nothing, boolean, whole, built_in, text, list, tuple, dict, function, no_members, member, no_pairs, pair}
-use Rattle.values_heap.specs.declared.halt.Halt.{Halt}
-use Rattle.values_heap.specs.declared.halt.Halt.TheVariants.{Code, Memory}
+use Rattle.values_objects.specs.declared.halt.Halt.{Halt}
+use Rattle.values_objects.specs.declared.halt.Halt.TheVariants.{Code, Memory}
 use Rattle.values_freeze.specs.declared.frozen.Frozen.{Frozen, fold-Frozen}
 use Rattle.values_freeze.specs.declared.frozen.FrozenEntry.{FrozenEntry, fold-FrozenEntry}
 use Rattle.values_freeze.specs.declared.frozen.Frozen.TheOpen.{Frozen-F, FrozenEntry-F}

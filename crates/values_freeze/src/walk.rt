@@ -1,7 +1,7 @@
 //! The walk that freezes a value.
 ghost use Rattle.std.specs.Prelude.{map, slice_get};
 ghost use Rattle.values_semantics.specs.Freezing.{freeze, inner_freeze, at_once, visit_held, freeze_shape, listed, tupled, mapped, freeze_members, freeze_entry, freeze_entries};
-ghost use Rattle.values_heap.specs.View.{object_in};
+ghost use Rattle.values_objects.specs.Standings.{object_in};
 ghost use Rattle.values_freeze.specs.View.{frozen_of, SaysFrozen, SaysMembers, SaysEntry, SaysEntries};
 
 use crate::frozen::{Frozen, FrozenEntry};

@@ -3,8 +3,8 @@ use Rattle.std.proofs.Common.{◌≡◌, ℕ, zero, suc, ◌+◌, ◌-◌, ◌<�
 use Rattle.std.specs.Prelude.{nat_lt, slice_get}
 use Rattle.std.proofs.lemmas.Bool.{le-ltb, lt-ltb}
 use Rattle.values_heap.specs.declared.objects.Range.{Range}
-use Rattle.values_heap.specs.Standings.{InOrder, Begun, Where, among_own, among_lent, where_is}
-use Rattle.values_heap.proofs.Laid.{get_drop}
+use Rattle.values_heap.specs.Ranges.{InOrder, Begun, Where, among_own, among_lent, where_is}
+use Rattle.values_objects.proofs.ListReads.{get_drop}
 
 -- a range begins after the first own object
 begins_behind : (rs : List Range) (f s n from l i : ℕ) (r : Range) → InOrder rs f s n from l → slice_get rs i ≡ Some r → f + s ≤ r.start

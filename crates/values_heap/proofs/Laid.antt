@@ -1,5 +1,5 @@
 -- Objects that are in order: what is at a place, and what is changed by a write, by one object more and by a range.
-use Rattle.std.proofs.Common.{◌≡◌, ℕ, zero, suc, ◌+◌, ◌-◌, ◌<◌, ◌≤◌, Bool, true, false, cond, List, [], ◌∷◌, ◌++◌, length, take, drop, set, map, Option, Some, None, refl, sym, ap, ◌∙◌, arith, append_assoc, append-nil}
+use Rattle.std.proofs.Common.{◌≡◌, ℕ, ◌+◌, ◌-◌, ◌<◌, ◌≤◌, Bool, true, false, cond, List, [], ◌∷◌, ◌++◌, length, take, drop, set, map, Option, Some, None, refl, sym, ap, ◌∙◌, arith, append_assoc, append-nil}
 use Rattle.std.specs.Prelude.{nat_lt, slice_get}
 use Rattle.std.specs.Arc.{arc_value}
 use Rattle.std.proofs.lemmas.Bool.{ltb-true, ltb-false, le-ltb}
@@ -7,37 +7,10 @@ use Rattle.std.proofs.lemmas.List.{length-append, length-take, length-drop, set-
 use Rattle.std.proofs.Math.Seq.{take-set-lt, take-length, drop-length}
 use Rattle.values_semantics.specs.Indexing.{between}
 use Rattle.values_heap.specs.declared.objects.Range.{Range}
-use Rattle.values_heap.specs.Standings.{laid_by, InOrder, among_own, among_lent, where_is, found_there, own_number}
+use Rattle.values_objects.proofs.ListReads.{get_left, get_drop, get_take, get_behind}
+use Rattle.values_heap.specs.Ranges.{laid_by, InOrder, among_own, among_lent, where_is, found_there, own_number}
 
 -- ---- lists
-
-pub get_left : {A : Type 0} (xs ys : List A) (i : ℕ) → i < length xs → slice_get (xs ++ ys) i ≡ slice_get xs i
-get_left [] ys i h = absurd (omega (arith, h))
-get_left (x ∷ xs) ys zero h = refl
-get_left (x ∷ xs) ys (suc i) h = get_left xs ys i (omega (arith, h))
-
-get_right : {A : Type 0} (xs ys : List A) (i : ℕ) → slice_get (xs ++ ys) (length xs + i) ≡ slice_get ys i
-get_right [] ys i = ap (slice_get ys) (omega arith)
-get_right (x ∷ xs) ys i =
-    let more : length (x ∷ xs) + i ≡ suc (length xs + i) = omega arith in
-    ap (slice_get (x ∷ (xs ++ ys))) more ∙ get_right xs ys i
-
-pub get_drop : {A : Type 0} (n : ℕ) (xs : List A) (i : ℕ) → slice_get (drop n xs) i ≡ slice_get xs (n + i)
-get_drop zero xs i = ap (slice_get xs) (omega arith)
-get_drop (suc n) [] i = refl
-get_drop (suc n) (x ∷ xs) i =
-    let more : suc (n + i) ≡ suc n + i = omega arith in
-    get_drop n xs i ∙ ap (slice_get (x ∷ xs)) more
-
-get_take : {A : Type 0} (n : ℕ) (xs : List A) (i : ℕ) → i < n → slice_get (take n xs) i ≡ slice_get xs i
-get_take zero xs i h = absurd (omega (arith, h))
-get_take (suc n) [] i h = refl
-get_take (suc n) (x ∷ xs) zero h = refl
-get_take (suc n) (x ∷ xs) (suc i) h = get_take n xs i (omega (arith, h))
-
--- at a place of the second of two lists
-pub get_behind : {A : Type 0} (xs ys : List A) (n i : ℕ) → length xs ≡ n → n ≤ i → slice_get (xs ++ ys) i ≡ slice_get ys (i - n)
-get_behind xs ys n i e h = ap (slice_get (xs ++ ys)) (omega (arith, e, h)) ∙ get_right xs ys (i - n)
 
 -- what is between two numbers has this many members, where the list is long enough
 between_length : {A : Type 0} (xs : List A) (a b : ℕ) → a ≤ b → b ≤ length xs → length (between xs a b) ≡ b - a

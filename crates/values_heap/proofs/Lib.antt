@@ -1,12 +1,5 @@
-pub mod Times
-pub mod DictionaryKeys
-pub mod Standing
 pub mod Laid
-pub mod Lent
 pub mod Places
-pub mod WholePages
-pub mod PagedObjects
 pub mod Halving
-pub mod Consecutive
 pub mod OwnObjects
 pub mod Iterations

@@ -1,26 +1,22 @@
 -- What is at the places of a heap, in terms of its own objects and its ranges.
-use Rattle.std.proofs.Common.{◌≡◌, ℕ, zero, suc, ◌+◌, ◌*◌, ◌-◌, Bool, true, false, cond, List, [], ◌∷◌, ◌++◌, length, set, map, Option, Some, None, option_map, refl, sym, subst, ap, ◌∙◌, arith, Result, Ok, Err, is_none}
-use Rattle.std.specs.Prelude.{slice_get, ◌||◌, OnErr}
+use Rattle.std.proofs.Common.{◌≡◌, ℕ, zero, suc, ◌+◌, ◌*◌, ◌-◌, Bool, true, false, List, [], ◌∷◌, ◌++◌, length, set, map, Option, Some, None, option_map, refl, sym, subst, ap, ◌∙◌, arith}
+use Rattle.std.specs.Prelude.{slice_get, ◌||◌}
 use Rattle.std.specs.Arc.{arc_value}
 use Rattle.std.specs.Borrow.{Bor}
 use Rattle.std.proofs.lemmas.List.{length-map, map-set, map-append}
 use Rattle.std.proofs.lemmas.Option.{slice_get-map}
 use Rattle.values_semantics.specs.Heap.{Obj}
 use Rattle.values_semantics.specs.Heap as m
-use Rattle.values_heap.specs.MemoryUse.{object_bytes}
-use Rattle.values_heap.specs.Reclamation.{standing_bytes, counted_bytes, bytes_while}
-use Rattle.values_heap.specs.declared.object.Object.{Object}
+use Rattle.values_objects.specs.ObjectBytes.{object_bytes}
 use Rattle.values_heap.specs.declared.objects.Range.{Range}
-use Rattle.values_heap.specs.Standings.{Standing, own, standing_of, is_gone, is_lent, stays, laid, laid_by, InOrder, range_standings, where_is, found_there, own_number, among_lent, lent_at}
+use Rattle.values_objects.specs.Standings.{Standing, own, is_gone, is_lent, stays, object_in}
+use Rattle.values_heap.specs.Ranges.{laid, laid_by, InOrder, range_standings, where_is, found_there, own_number, among_lent, lent_at}
 use Rattle.values_frozen_objects.specs.Shift.{moved, moved_val, moved_pair}
 use Rattle.values_frozen_objects.specs.Objects.{frozen_obj}
 use Rattle.values_frozen_objects.specs.declared.object.FrozenObject.{FrozenObject}
-use Rattle.values_heap.specs.declared.heap_object.HeapObject.{HeapObject}
 use Rattle.values_heap.specs.declared.objects.Spot.{Spot}
 use Rattle.values_heap.specs.declared.objects.Spot.TheVariants as s
 use Rattle.values_heap.specs.Sought.{sought, sought_number}
-use Rattle.values_heap.specs.View.{object_in}
-use Rattle.values_heap.specs.Own.{written_object}
 use Rattle.values_heap.proofs.Laid.{laid_at, laid_length, laid_map, laid_set, laid_pushed, laid_lent}
 
 as_long : (r : Range) → length (range_standings r) ≡ length (arc_value r.objects)
@@ -131,10 +127,6 @@ put_nothing [] i x h = refl
 put_nothing (y ∷ ys) zero x h = cc
 put_nothing (y ∷ ys) (suc i) x h = ap (λ zs. y ∷ zs) (put_nothing ys i x h)
 
-pub on_err : {A B P Q : Type 0} (r : Result A B) → (P → Q) → OnErr r P → OnErr r Q
-on_err (Ok a) f p = p
-on_err (Err b) f p = f p
-
 -- moving an object keeps its size
 pub moved_bytes : (b : ℕ) (o : Obj) → object_bytes (moved b o) ≡ object_bytes o
 moved_bytes b (m.text bytes) = refl
@@ -165,11 +157,3 @@ pub lent_in : (n : ℕ) (os : List Obj) → map object_in (map (lent_at n) os) �
 unfolding object_in
 lent_in n [] = refl
 lent_in n (o ∷ os) = ap (λ l. moved n o ∷ l) (lent_in n os)
-
--- an own object counts for its bytes while its memory is there
-pub own_bytes : (h : HeapObject) → counted_bytes h ≡ standing_bytes (Some (standing_of h))
-own_bytes h = by h.object
-  where
-    by : (o : Option Object) → bytes_while o (object_bytes (written_object h)) ≡ cond (is_none o) 0 (object_bytes (written_object h))
-    by (Some o) = refl
-    by None = refl

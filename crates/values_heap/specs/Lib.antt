@@ -1,15 +1,5 @@
 pub mod View
-pub mod Numbers
-pub mod Full
-pub mod ListSizes
 pub mod MemoryUse
-pub mod Objects
-pub mod LastWrite
 pub mod Reclamation
-pub mod Looks
-pub mod Standings
-pub mod Own
-pub mod Held
+pub mod Ranges
 pub mod Sought
-pub mod Wholes
-pub mod Pages

@@ -3,7 +3,8 @@ use Rattle.std.specs.Prelude.{ℕ, List, Option, Some, None, option_map, slice_g
 use Rattle.values_frozen_objects.specs.Objects.{frozen_obj}
 use Rattle.values_heap.specs.declared.objects.Spot.{Spot}
 use Rattle.values_heap.specs.declared.objects.Spot.TheVariants as s
-use Rattle.values_heap.specs.Standings.{Standing, lent_at}
+use Rattle.values_objects.specs.Standings.{Standing}
+use Rattle.values_heap.specs.Ranges.{lent_at}
 
 abbrev pub sought : List Standing → Spot → Option Standing
 sought objects (s.Own i) = slice_get objects i

@@ -6,13 +6,9 @@ use Rattle.values_semantics.specs.Outcome.{Out, gives, faults, ValueOrFault, goo
 use Rattle.values_semantics.specs.Heap.{Obj, Store}
 use Rattle.values_frozen_objects.specs.Shift.{moved}
 use Rattle.values_heap.specs.declared.heap.Heap.{Heap}
-use Rattle.values_heap.specs.declared.halt.Halt.{Halt}
-use Rattle.values_heap.specs.declared.halt.Halt.TheVariants.{Code, Memory}
-use Rattle.values_heap.specs.Standings.{Standing, standing_object}
-
--- the object that is there, even after it has been freed
-unfoldable pub object_in : Standing → Obj
-object_in s = standing_object s
+use Rattle.values_objects.specs.declared.halt.Halt.{Halt}
+use Rattle.values_objects.specs.declared.halt.Halt.TheVariants.{Code, Memory}
+use Rattle.values_objects.specs.Standings.{object_in}
 
 -- what is iterated is in memory in the order in which the iterations began, and here the last one is the first
 abbrev pub store_of : Heap → Store

@@ -2,27 +2,24 @@
 ghost use Rattle.std.specs.Prelude.{◌≡◌, [], length, option_map, slice_get, IfOk, OnOk, OnErr, ◌+◌, ◌*◌, ◌-◌, ◌≤◌, nat_le};
 ghost use Rattle.values_semantics.specs.Outcome.{gives};
 ghost use Rattle.values_semantics.specs.Heap.{at, puts, makes, makes_text, makes_list, makes_tuple, makes_dict};
-ghost use Rattle.values_heap.specs.Objects.{object_of};
-ghost use Rattle.values_heap.specs.Looks.{seen_object};
+ghost use Rattle.values_objects.specs.Objects.{object_of};
+ghost use Rattle.values_objects.specs.Looks.{seen_object};
 ghost use Rattle.std.specs.Arc.{arc_value};
 ghost use Rattle.values_heap.specs.View.{store_of, lends, Says};
-ghost use Rattle.values_heap.specs.Reclamation.{IsGone, IsLent, IsKept, copy_bytes};
-ghost use Rattle.values_heap.specs.MemoryUse.{most_held, object_bytes, place_bytes, Counted, CountedUnless};
+ghost use Rattle.values_heap.specs.Reclamation.{IsGone, IsLent, IsKept};
+ghost use Rattle.values_objects.specs.ObjectBytes.{copy_bytes, object_bytes};
+ghost use Rattle.values_heap.specs.MemoryUse.{most_held, place_bytes, Counted, CountedUnless};
 
-use crate::halt::Halt;
-use crate::object::{ENTRY, MEMBER, Object, shape_of, size_of};
-use crate::object_ref::ObjectRef;
 use crate::objects::Objects;
-use crate::spare::SpareRoom;
 use base_types::Memory;
 use indexmap::IndexMap;
 use std::alloc::Global;
 use std::sync::Arc;
 use values_frozen_objects::FrozenObjects;
+use values_objects::{
+    ENTRY, Halt, MAX_LENGTH, MEMBER, Object, ObjectRef, SpareRoom, shape_of, size_of,
+};
 use values_semantics::{Bytes, Entry, Key, Val, faults};
-
-/// The most bytes of a string, and members of a list, tuple or dictionary.
-pub const MAX_LENGTH: usize = 65536;
 
 /// The number of containers, one inside another, that a walk may enter.
 pub const MAX_DEPTH: u32 = 64;

@@ -4,12 +4,11 @@ ghost use Rattle.values_heap.specs.View.{store_of};
 ghost use Rattle.values_heap.specs.Reclamation.{bytes_of_own};
 
 use crate::heap::Heap;
-use crate::object_ref::{Entries, Members, ObjectRef};
 use crate::objects::Gap;
-use crate::pages::PAGE;
 use base_types::Memory;
 use indexmap::IndexMap;
 use std::alloc::Global;
+use values_objects::{Entries, Members, ObjectRef, PAGE};
 use values_semantics::{Entry, Key, Val};
 
 /// The own objects that are known to be reached. Attached ones are not among them, since they are neither followed nor
@@ -17,8 +16,10 @@ use values_semantics::{Entry, Key, Val};
 /// `Memory`.
 #[derive(Drop)]
 pub struct Marks {
-    // For each page of own objects, and each object that has memory in it, whether it is reached.
+    // For each page of own objects that has memory, and each object in it, whether it is reached.
     marks: Vec<Vec<bool>>,
+    // For each page of own objects the number of pages whose marks were made up to it, or 0 if it has no memory.
+    slots: Vec<usize>,
     // The gaps between own objects, in order, by which their numbers are found.
     gaps: Vec<Gap>,
     // The places of reached objects whose members are not visited yet.
@@ -29,18 +30,38 @@ impl Marks {
     /// Makes a record of the own objects of a heap, of which none is reached. It is for this heap alone, and until
     /// more objects are attached.
     pub fn new(alloc: Global, heap: &Heap) -> Result<Marks, Memory> {
-        let pages = heap.objects.pages();
-        let mut marks = Vec::with_capacity(alloc, pages)?;
-        for page in 0..pages {
-            let mut unreached = Vec::new(alloc);
-            unreached.resize(heap.objects.page_len(page), false)?;
-            marks.push(unreached)?;
-        }
-        Ok(Marks {
-            marks,
+        let mut slots = Vec::new(alloc);
+        slots.resize(heap.objects.pages(), 0)?;
+        let mut reached = Marks {
+            marks: Vec::new(alloc),
+            slots,
             gaps: heap.objects.gaps(alloc)?,
             open: Vec::new(alloc),
-        })
+        };
+        for k in 0..heap.objects.standing_len() {
+            reached.add_page(alloc, heap, heap.objects.standing_page(k))?;
+        }
+        reached.add_page(alloc, heap, heap.objects.pages().checked_sub(1))?;
+        Ok(reached)
+    }
+
+    // Makes the marks of a page.
+    fn add_page(&mut self, alloc: Global, heap: &Heap, page: Option<usize>) -> Result<(), Memory> {
+        let Some(page) = page else {
+            return Ok(());
+        };
+        let mut unreached = Vec::new(alloc);
+        unreached.resize(heap.objects.page_len(page), false)?;
+        self.marks.push(unreached)?;
+        if let Some(slot) = self.slots.get_mut(page) {
+            *slot = self.marks.len();
+        }
+        Ok(())
+    }
+
+    // Returns at which place the marks of a page are, if it has some.
+    fn slot(&self, page: usize) -> usize {
+        self.slots.get(page).copied().unwrap_or(0).wrapping_sub(1)
     }
 
     // Returns the number of the own object at a place, or nothing if an attached one is there. This takes one
@@ -70,7 +91,8 @@ impl Marks {
 
     // Marks the own object with a number as reached, which is at a place.
     fn add_own(&mut self, number: usize, place: usize) -> Result<(), Memory> {
-        if let Some(page) = self.marks.get_mut(number / PAGE) {
+        let slot = self.slot(number / PAGE);
+        if let Some(page) = self.marks.get_mut(slot) {
             if let Some(mark) = page.get_mut(number % PAGE) {
                 if !*mark {
                     *mark = true;
@@ -121,7 +143,7 @@ impl Marks {
 
     // Returns which objects of a page are reached.
     fn of_page(&self, page: usize) -> &[bool] {
-        match self.marks.get(page) {
+        match self.marks.get(self.slot(page)) {
             Some(found) => found.as_slice(),
             None => &[],
         }
@@ -159,12 +181,30 @@ impl Heap {
         ensures held { self.new.held ≤ self.old.held }
     {
         let mut places: usize = 0;
-        for page in 0..self.objects.pages() {
-            self.sweep_page(page, reached.of_page(page));
-            self.objects.give_back(page);
-            places = places.saturating_add(self.objects.page_len(page));
+        let pages = self.objects.standing_len();
+        for i in 0..pages {
+            // From the last one, since one that is given back leaves its place to the last one.
+            let k = pages - 1 - i;
+            places = places.saturating_add(self.sweep_standing(reached, k));
         }
-        self.set_threshold(places);
+        let last = self.objects.pages().saturating_sub(1);
+        self.sweep_page(last, reached.of_page(last));
+        let more = self.objects.page_len(last);
+        self.set_threshold(places.saturating_add(more));
+    }
+
+    // Frees the own objects that are not reached of one of the full pages that have memory, and gives this back if none
+    // is left. Returns how many objects have memory in the page.
+    fn sweep_standing(&mut self, reached: &Marks, k: usize) -> usize
+        ensures same { store_of self.new ≡ store_of self.old }
+        ensures held { self.new.held ≤ self.old.held }
+    {
+        let Some(page) = self.objects.standing_page(k) else {
+            return 0;
+        };
+        self.sweep_page(page, reached.of_page(page));
+        self.objects.give_back(k);
+        self.objects.page_len(page)
     }
 
     // Frees the own objects of a page that are not reached.

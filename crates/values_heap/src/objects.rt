@@ -1,23 +1,20 @@
 //! The objects of a heap: its own, and among them the ranges that are attached to it.
 ghost use Rattle.std.specs.Prelude.{◌≡◌, ◌∷◌, [], ◌++◌, ◌+◌, ◌<◌, ◌^◌, ℕ, List, map, length, option_map, slice_get, slice_set, Some, false, IfOk, OnOk, OnErr};
 ghost use Rattle.std.specs.Arc.{arc_value};
-ghost use Rattle.values_heap.specs.Looks.{seen_object};
-ghost use Rattle.values_heap.specs.MemoryUse.{found_bytes};
-ghost use Rattle.values_heap.specs.Objects.{object_of};
-ghost use Rattle.values_heap.specs.Reclamation.{IsGone, IsLent, IsKept, bytes_of_own, copy_bytes};
-ghost use Rattle.values_heap.specs.Standings.{Standing, Begun, own, lent_at, InOrder, where_is, found_there, own_number, range_standings};
+ghost use Rattle.values_objects.specs.Looks.{seen_object};
+ghost use Rattle.values_objects.specs.ObjectBytes.{found_bytes, copy_bytes};
+ghost use Rattle.values_objects.specs.Objects.{object_of};
+ghost use Rattle.values_heap.specs.Reclamation.{IsGone, IsLent, IsKept, bytes_of_own};
+ghost use Rattle.values_objects.specs.Standings.{Standing, own, object_in};
+ghost use Rattle.values_heap.specs.Ranges.{Begun, lent_at, InOrder, where_is, found_there, own_number, range_standings};
 ghost use Rattle.values_heap.specs.Sought.{sought, sought_number};
-ghost use Rattle.values_heap.specs.View.{object_in};
 
-use crate::object::{Object, frozen_shape, size_of};
-use crate::object_ref::{ObjectRef, show_lent};
-use crate::own_objects::OwnObjects;
-use crate::spare::SpareRoom;
 use base_types::Memory;
 use std::alloc::Global;
 use std::marker::Model;
 use std::sync::Arc;
 use values_frozen_objects::{FrozenObject, FrozenObjects};
+use values_objects::{Object, ObjectRef, OwnObjects, SpareRoom, frozen_shape, show_lent, size_of};
 
 // Objects that are attached: the place of the first, the place after the last, how many attached objects there are up
 // to that place, and the objects, whose places count from the first of them.
@@ -61,8 +58,9 @@ impl Drop for Objects {
 
 impl Model for Objects {
     ghost use Rattle.std.specs.Prelude.{List, length};
-    ghost use Rattle.values_heap.specs.Pages.{own_standings};
-    ghost use Rattle.values_heap.specs.Standings.{Standing, laid, InOrder};
+    ghost use Rattle.values_objects.specs.Pages.{own_standings};
+    ghost use Rattle.values_objects.specs.Standings.{Standing};
+    ghost use Rattle.values_heap.specs.Ranges.{laid, InOrder};
 
     ghost Value = { List Standing };
 
@@ -285,7 +283,7 @@ impl Objects {
         self.own.len()
     }
 
-    /// Returns how many pages the own objects have.
+    /// Returns how many pages the own objects have. The last one may have few objects, or none.
     pub(crate) fn pages(&self) -> usize {
         self.own.pages()
     }
@@ -295,11 +293,22 @@ impl Objects {
         self.own.page_len(page)
     }
 
-    /// Gives the memory of the page with a number back if all its objects have been freed.
-    pub(crate) fn give_back(&mut self, page: usize)
+    /// Returns how many full pages have memory.
+    pub(crate) fn standing_len(&self) -> usize {
+        self.own.standing_len()
+    }
+
+    /// Returns the number of one of the full pages that have memory.
+    pub(crate) fn standing_page(&self, k: usize) -> Option<usize> {
+        self.own.standing_page(k)
+    }
+
+    /// Gives the memory of one of the full pages that have some back, if all its objects have been freed. The last one of
+    /// these pages is then in its place.
+    pub(crate) fn give_back(&mut self, k: usize)
         ensures { self.new ≡ self.old }
     {
-        self.own.give_back(page);
+        self.own.give_back(k);
     }
 
     /// Returns the gaps between own objects, in order. The time depends on the number of ranges, and not on what is in

@@ -2,7 +2,7 @@
 ghost use Rattle.values_semantics.specs.Outcome.{tick, spend};
 ghost use Rattle.values_heap.specs.View.{Says};
 
-use crate::halt::Halt;
+use values_objects::Halt;
 use values_semantics::faults;
 
 /// Takes one step, or returns fault 11.

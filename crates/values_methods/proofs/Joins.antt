@@ -5,8 +5,8 @@ use Rattle.values_semantics.specs.Outcome.{Out, Does, gives, faults, and_then, p
 use Rattle.values_semantics.specs.Heap.{Store, is_sized}
 use Rattle.values_semantics.specs.Methods.{with_between}
 use Rattle.values_semantics.specs.declared.faults.TheConstants.{TOO_LARGE}
-use Rattle.values_heap.specs.declared.halt.Halt.{Halt}
-use Rattle.values_heap.specs.declared.halt.Halt.TheVariants.{Code, Memory}
+use Rattle.values_objects.specs.declared.halt.Halt.{Halt}
+use Rattle.values_objects.specs.declared.halt.Halt.TheVariants.{Code, Memory}
 use Rattle.values_heap.specs.View.{SaysItems}
 use Rattle.values_methods.specs.Cases.{sized_text}
 use Rattle.values_methods.specs.Texts.{Grows}

@@ -9,9 +9,9 @@ use Rattle.memchr.specs.Find.{FindsNeedle}
 use Rattle.values_semantics.specs.Heap.{is_sized}
 use Rattle.values_semantics.specs.Membership.{begins}
 use Rattle.values_semantics.specs.Methods.{parts, split_by, with_between}
-use Rattle.values_heap.specs.declared.halt.Halt.{Halt}
-use Rattle.values_heap.specs.declared.halt.Halt.TheVariants.{Code, Memory}
-use Rattle.values_heap.specs.ListSizes.{SizedAs}
+use Rattle.values_objects.specs.declared.halt.Halt.{Halt}
+use Rattle.values_objects.specs.declared.halt.Halt.TheVariants.{Code, Memory}
+use Rattle.values_objects.specs.ListSizes.{SizedAs}
 use Rattle.values_methods.specs.Texts.{Grows, exchanged, replaced}
 use Rattle.values_methods.proofs.Separators.{split_found, split_over}
 

@@ -4,8 +4,8 @@ use denote.Ref.{Bor}
 use Rattle.values_semantics.specs.Outcome.{Out, gives, faults, ValueOrFault, good, bad}
 use Rattle.values_semantics.specs.Heap.{is_sized}
 use Rattle.values_semantics.specs.declared.faults.TheConstants.{TOO_LARGE}
-use Rattle.values_heap.specs.declared.halt.Halt.{Halt}
-use Rattle.values_heap.specs.declared.halt.Halt.TheVariants.{Code, Memory}
+use Rattle.values_objects.specs.declared.halt.Halt.{Halt}
+use Rattle.values_objects.specs.declared.halt.Halt.TheVariants.{Code, Memory}
 
 -- more bytes after those that were there, if they are not too many, and else fault 13
 abbrev pub Grows : List ℕ → List ℕ → Result (Unit {0}) Halt → List ℕ → Type 0

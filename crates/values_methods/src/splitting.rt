@@ -3,7 +3,7 @@ ghost use Rattle.std.specs.Prelude.{◌≡◌, ◌<◌, [], ◌∷◌, ◌++◌,
 ghost use Rattle.memchr.specs.Find.{FindsNeedle};
 ghost use Rattle.values_semantics.specs.Membership.{begins};
 ghost use Rattle.values_semantics.specs.Methods.{split_by, with_between};
-ghost use Rattle.values_heap.specs.ListSizes.{SizedAs};
+ghost use Rattle.values_objects.specs.ListSizes.{SizedAs};
 ghost use Rattle.values_methods.specs.Texts.{Grows, shown, exchanged, replaced};
 
 use crate::spaces::starts_with;

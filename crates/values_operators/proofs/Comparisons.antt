@@ -9,8 +9,8 @@ use Rattle.values_semantics.specs.Outcome.{Out, gives, faults, Does, and_then, â
 use Rattle.values_semantics.specs.Heap.{Obj, Entries}
 use Rattle.values_semantics.specs.Comparing.{equal, inner_equal, pair, visit_pair, equal_members, equal_entries, equal_entry, members, entries, order, inner_order, sides, visit_sides, listed, parting, order_parted, Parting, settled_as, unequal}
 use Rattle.std.specs.declared.cmp.Ordering.TheVariants.{Greater}
-use Rattle.values_heap.specs.declared.halt.Halt.{Halt}
-use Rattle.values_heap.specs.declared.halt.Halt.TheVariants.{Code, Memory}
+use Rattle.values_objects.specs.declared.halt.Halt.{Halt}
+use Rattle.values_objects.specs.declared.halt.Halt.TheVariants.{Code, Memory}
 use Rattle.values_operators.specs.ListEnd.{ended}
 use Rattle.values_heap.specs.View.{Says}
 use Rattle.values_operators.specs.View.{SaysParting}

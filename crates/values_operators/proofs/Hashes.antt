@@ -7,8 +7,8 @@ use Rattle.values_semantics.specs.declared.key.Part.TheVariants as p
 use Rattle.values_semantics.specs.Outcome.{Out, gives, faults, Does, and_then, ◌>>=◌, ◌>>◌, pure, tick}
 use Rattle.values_semantics.specs.Heap.{Obj}
 use Rattle.values_semantics.specs.Hashing.{key, inner_key, visit_key, as_key, along, parts}
-use Rattle.values_heap.specs.declared.halt.Halt.{Halt}
-use Rattle.values_heap.specs.declared.halt.Halt.TheVariants.{Code, Memory}
+use Rattle.values_objects.specs.declared.halt.Halt.{Halt}
+use Rattle.values_objects.specs.declared.halt.Halt.TheVariants.{Code, Memory}
 use Rattle.values_heap.specs.View.{SaysItems}
 use Rattle.values_operators.proofs.Comparisons.{drop_there}
 

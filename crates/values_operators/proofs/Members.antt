@@ -4,7 +4,7 @@ use Rattle.std.specs.Prelude.{slice_get, Bool}
 use Rattle.values_semantics.specs.declared.val.Val.{Val}
 use Rattle.values_semantics.specs.Outcome.{Out, gives, Does, and_then, pure}
 use Rattle.values_semantics.specs.Membership.{any_equal}
-use Rattle.values_heap.specs.declared.halt.Halt.{Halt}
+use Rattle.values_objects.specs.declared.halt.Halt.{Halt}
 use Rattle.values_heap.specs.View.{Says}
 use Rattle.values_operators.proofs.Comparisons.{drop_there, drop_past, fault_stays}
 

@@ -5,7 +5,7 @@ use Rattle.std.specs.Cmp.{signed_Decides}
 use Rattle.values_semantics.specs.declared.val.Val.{Val}
 use Rattle.values_semantics.specs.Outcome.{bad}
 use Rattle.values_semantics.specs.Numbers.{fitting, unless_zero}
-use Rattle.values_heap.specs.declared.halt.Halt.{Halt}
+use Rattle.values_objects.specs.declared.halt.Halt.{Halt}
 use Rattle.values_heap.specs.View.{Checks}
 
 not_so : (b : Bool) → (b ≡ true → ⊥) → b ≡ false

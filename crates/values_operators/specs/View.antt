@@ -3,8 +3,8 @@ use Rattle.std.specs.Prelude.{◌≡◌, ℕ, Result, Ok, Err}
 use Rattle.values_semantics.specs.Outcome.{Out, gives, faults}
 use Rattle.values_semantics.specs.Hashing as h
 use Rattle.values_semantics.specs.Comparing as e
-use Rattle.values_heap.specs.declared.halt.Halt.{Halt}
-use Rattle.values_heap.specs.declared.halt.Halt.TheVariants.{Code, Memory}
+use Rattle.values_objects.specs.declared.halt.Halt.{Halt}
+use Rattle.values_objects.specs.declared.halt.Halt.TheVariants.{Code, Memory}
 use Rattle.values_operators.specs.declared.hashing.KeyForm.{KeyForm}
 use Rattle.values_operators.specs.declared.hashing.KeyForm.TheVariants as k
 use Rattle.values_operators.specs.declared.equality.Pair.{Pair}

@@ -1,7 +1,8 @@
 //! Comparison by `==`.
 ghost use Rattle.std.specs.Prelude.{◌≡◌, map, slice_get, IfOk};
 ghost use Rattle.values_semantics.specs.Comparing.{equal, inner_equal, pair, pair_objects, equal_members, equal_entries, equal_entry, equal_found, visit_pair, members, entries};
-ghost use Rattle.values_heap.specs.View.{object_in, Says};
+ghost use Rattle.values_objects.specs.Standings.{object_in};
+ghost use Rattle.values_heap.specs.View.{Says};
 ghost use Rattle.values_operators.specs.View.{pair_seen};
 
 use base_types::Memory;

@@ -1,7 +1,8 @@
 //! Keys of dictionaries.
 ghost use Rattle.std.specs.Prelude.{◌≡◌, map, IfOk};
 ghost use Rattle.values_semantics.specs.Hashing.{key, inner_key, along, part_key, visit_key, as_key, parts};
-ghost use Rattle.values_heap.specs.View.{object_in, Says, SaysItems};
+ghost use Rattle.values_objects.specs.Standings.{object_in};
+ghost use Rattle.values_heap.specs.View.{Says, SaysItems};
 ghost use Rattle.values_operators.specs.View.{key_seen};
 
 use base_types::Memory;

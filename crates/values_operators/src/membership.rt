@@ -3,7 +3,8 @@ ghost use Rattle.std.specs.Prelude.{◌≡◌, map};
 ghost use Rattle.values_semantics.specs.Comparing.{equal};
 ghost use Rattle.values_semantics.specs.Membership.{any_equal, is_part, text_has, object_has, hashed_has, has_key, has};
 ghost use Rattle.values_semantics.specs.Heap.{at};
-ghost use Rattle.values_heap.specs.View.{object_in, store_of, Says, Checks};
+ghost use Rattle.values_objects.specs.Standings.{object_in};
+ghost use Rattle.values_heap.specs.View.{store_of, Says, Checks};
 
 use crate::equality::equal;
 use crate::walks::hash;

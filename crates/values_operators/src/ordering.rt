@@ -2,7 +2,8 @@
 ghost use Rattle.std.specs.Prelude.{◌≡◌, map, slice_get, IfOk};
 ghost use Rattle.values_semantics.specs.Comparing.{equal, order, inner_order, sides, side_objects, visit_sides, listed, parting};
 ghost use Rattle.values_operators.specs.ListEnd.{ended};
-ghost use Rattle.values_heap.specs.View.{object_in, Says};
+ghost use Rattle.values_objects.specs.Standings.{object_in};
+ghost use Rattle.values_heap.specs.View.{Says};
 ghost use Rattle.values_operators.specs.View.{SaysParting, sides_seen};
 
 use crate::equality::equal;

@@ -1,5 +1,5 @@
 use Rattle.std.proofs.Common.{ℕ, Err, ap, sym, subst, ◌∙◌}
-use Rattle.values_heap.specs.declared.halt.Halt.{Halt}
+use Rattle.values_objects.specs.declared.halt.Halt.{Halt}
 use Rattle.evaluator_semantics.specs.World.{failed}
 use Rattle.evaluator_state.specs.View.{world_of, here_of}
 use Rattle.evaluator_frames.specs.declared.frame.Control.{Control}

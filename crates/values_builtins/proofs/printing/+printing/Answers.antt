@@ -1,7 +1,7 @@
 use Rattle.std.proofs.Common.{rules, map, ap, ◌∙◌, arith, codes, to_z, of_z, w64}
 use Rattle.values_semantics.specs.Outcome.{gives}
 use Rattle.values_semantics.specs.Printing.{print, int_text, separated, pair_text}
-use Rattle.values_heap.specs.View.{object_in}
+use Rattle.values_objects.specs.Standings.{object_in}
 use Rattle.values_builtins.specs.TextBuffers.{text_so_far}
 use Rattle.values_builtins.proofs.TextBufferLaws.{contained, twice, more_nothing, items_end, item_halts, item_told}
 use Rattle.values_builtins.proofs.PrintLaws.{print_plainly}

@@ -1,6 +1,6 @@
 use Rattle.std.proofs.Common.{◌≡◌, ◌+◌, ◌*◌, drop, map}
 use Rattle.values_semantics.specs.Printing.{print, separated, pair_text}
-use Rattle.values_heap.specs.View.{object_in}
+use Rattle.values_objects.specs.Standings.{object_in}
 use Rattle.values_builtins.specs.TextBuffers.{text_so_far, text_after}
 use Rattle.values_builtins.proofs.TextBufferLaws.{left_of}
 use Rattle.values_builtins.proofs.printing.+printing.Given as goal

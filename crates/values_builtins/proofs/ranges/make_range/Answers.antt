@@ -1,6 +1,6 @@
 use Rattle.std.proofs.Common.{◌≡◌, FitsSigned, w64, to_z, pos, ap, ◌∙◌}
 use Rattle.std.proofs.lemmas.Int.{to_z-of_z}
-use Rattle.values_heap.specs.Numbers.{shown}
+use Rattle.values_objects.specs.Numbers.{shown}
 use Rattle.values_heap.specs.View.{store_of}
 use Rattle.values_builtins.proofs.RangeNumbers.{range_made, held_made}
 use Rattle.values_builtins.proofs.ranges.make_range.Goals as goal

@@ -2,7 +2,7 @@ use Rattle.std.proofs.Common.{List, ◌+◌, ◌∷◌, [], drop, map, ap, ◌�
 use Rattle.std.proofs.lemmas.List.{map-append}
 use Rattle.values_semantics.specs.Outcome.{and_then, gives}
 use Rattle.values_semantics.specs.Freezing.{Fz, freeze, freeze_members, freeze_entries}
-use Rattle.values_heap.specs.View.{object_in}
+use Rattle.values_objects.specs.Standings.{object_in}
 use Rattle.values_freeze.specs.View.{frozen_of, entry_of, onto, pairs_onto}
 use Rattle.values_freeze.proofs.FreezeLaws.{member_frozen, member_halts, entry_frozen, entry_halts}
 use Rattle.values_freeze.proofs.walk.+freezing.Goals as goal

@@ -1,7 +1,7 @@
 use Rattle.std.proofs.Common.{◌≡◌, ◌+◌, ◌*◌, drop, map}
 use Rattle.values_semantics.specs.Outcome.{and_then, gives}
 use Rattle.values_semantics.specs.Freezing.{freeze, freeze_members, freeze_entries}
-use Rattle.values_heap.specs.View.{object_in}
+use Rattle.values_objects.specs.Standings.{object_in}
 use Rattle.values_freeze.specs.View.{frozen_of, entry_of, onto, pairs_onto}
 use Rattle.values_freeze.proofs.walk.+freezing.Given as goal
 

@@ -1,7 +1,7 @@
 use Rattle.std.proofs.Common.{◌≡◌, ◌-◌, ◌<◌, length, suc, Some, refl, sym, ap, ◌∙◌, arith}
 use Rattle.std.specs.Prelude.{slice_get}
 use Rattle.std.proofs.lemmas.Option.{slice_get_read}
-use Rattle.values_heap.specs.Standings.{own_number, found_there, range_standings}
+use Rattle.values_heap.specs.Ranges.{own_number, found_there, range_standings}
 use Rattle.values_heap.proofs.Halving.{before_all, behind_last, in_last}
 use Rattle.values_heap.proofs.Places.{lent_found}
 use Rattle.values_heap.proofs.objects.seek_in.Goals as goal

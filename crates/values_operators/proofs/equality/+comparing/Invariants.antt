@@ -1,6 +1,6 @@
 use Rattle.std.proofs.Common.{◌≡◌, ◌+◌, ◌*◌, drop, map}
 use Rattle.values_semantics.specs.Comparing.{equal, equal_members, equal_entries}
-use Rattle.values_heap.specs.View.{object_in}
+use Rattle.values_objects.specs.Standings.{object_in}
 use Rattle.values_operators.proofs.equality.+comparing.Given as goal
 
 abbrev pub decreases-equal : goal.decreases-equal

@@ -1,6 +1,6 @@
 use Rattle.std.proofs.Common.{map}
 use Rattle.values_semantics.specs.Hashing.{key}
-use Rattle.values_heap.specs.View.{object_in}
+use Rattle.values_objects.specs.Standings.{object_in}
 use Rattle.values_operators.proofs.Hashes.{along_fault, along_more}
 use Rattle.values_operators.proofs.hashing.+hashing.Goals as goal
 

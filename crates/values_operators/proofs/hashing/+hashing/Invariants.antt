@@ -1,7 +1,7 @@
 use Rattle.std.proofs.Common.{◌≡◌, ◌+◌, ◌*◌, ◌++◌, drop, map}
 use Rattle.values_semantics.specs.Outcome.{and_then, gives}
 use Rattle.values_semantics.specs.Hashing.{key, along}
-use Rattle.values_heap.specs.View.{object_in}
+use Rattle.values_objects.specs.Standings.{object_in}
 use Rattle.values_operators.proofs.hashing.+hashing.Given as goal
 
 abbrev pub decreases-key : goal.decreases-key

@@ -1,6 +1,6 @@
 use Rattle.std.proofs.Common.{map}
 use Rattle.values_semantics.specs.Comparing.{equal}
-use Rattle.values_heap.specs.View.{object_in}
+use Rattle.values_objects.specs.Standings.{object_in}
 use Rattle.values_operators.proofs.Members.{any_same, any_differ, any_fault}
 use Rattle.values_operators.proofs.membership.any_equal.Goals as goal
 

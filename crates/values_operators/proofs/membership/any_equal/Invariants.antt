@@ -1,7 +1,7 @@
 use Rattle.std.proofs.Common.{◌≡◌, drop, map}
 use Rattle.values_semantics.specs.Comparing.{equal}
 use Rattle.values_semantics.specs.Membership.{any_equal}
-use Rattle.values_heap.specs.View.{object_in}
+use Rattle.values_objects.specs.Standings.{object_in}
 use Rattle.values_operators.proofs.membership.any_equal.Given as goal
 
 abbrev pub invariant-loop-i : goal.invariant-loop-i

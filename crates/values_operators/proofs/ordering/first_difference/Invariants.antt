@@ -1,6 +1,6 @@
 use Rattle.std.proofs.Common.{◌≡◌, drop, map}
 use Rattle.values_semantics.specs.Comparing.{equal, parting}
-use Rattle.values_heap.specs.View.{object_in}
+use Rattle.values_objects.specs.Standings.{object_in}
 use Rattle.values_operators.proofs.ordering.first_difference.Given as goal
 
 abbrev pub invariant-loop-i : goal.invariant-loop-i

@@ -2,8 +2,9 @@ use Rattle.std.proofs.Common.{◌++◌, length, map, sym, ap, ◌∙◌}
 use Rattle.std.specs.Arc.{arc_value}
 use Rattle.std.proofs.lemmas.List.{length-map, map-append}
 use Rattle.values_frozen_objects.specs.Shift.{moved}
-use Rattle.values_heap.specs.Standings.{lent_at}
-use Rattle.values_heap.specs.View.{object_in, store_of}
+use Rattle.values_heap.specs.Ranges.{lent_at}
+use Rattle.values_objects.specs.Standings.{object_in}
+use Rattle.values_heap.specs.View.{store_of}
 use Rattle.values_heap.proofs.Places.{lent_in}
 use Rattle.values_heap.proofs.heap.Heap.attach.Goals as goal
 

@@ -3,9 +3,9 @@ use Rattle.std.proofs.lemmas.List.{length-map}
 use Rattle.values_semantics.specs.declared.val.Val.TheVariants as v
 use Rattle.values_semantics.specs.Outcome.{gives}
 use Rattle.values_semantics.specs.Heap.{makes}
-use Rattle.values_heap.specs.Objects.{object_of}
-use Rattle.values_heap.specs.Standings.{own}
-use Rattle.values_heap.specs.View.{object_in, store_of}
+use Rattle.values_objects.specs.Objects.{object_of}
+use Rattle.values_objects.specs.Standings.{own, object_in}
+use Rattle.values_heap.specs.View.{store_of}
 use Rattle.values_heap.proofs.Places.{map_more, own_in}
 use Rattle.values_heap.proofs.heap.Heap.make.Goals as goal
 

@@ -1,7 +1,7 @@
 use Rattle.std.proofs.Common.{◌+◌, ◌++◌, length, map, sym, subst, ap, ◌∙◌}
 use Rattle.std.specs.Arc.{arc_value}
-use Rattle.values_heap.specs.Pages.{own_standings}
-use Rattle.values_heap.specs.Standings.{InOrder, laid, lent_at}
+use Rattle.values_objects.specs.Pages.{own_standings}
+use Rattle.values_heap.specs.Ranges.{InOrder, laid, lent_at}
 use Rattle.values_heap.proofs.Laid.{order_lent}
 use Rattle.values_heap.proofs.Places.{range_lent}
 use Rattle.values_heap.proofs.objects.Objects.attach.Goals as goal

@@ -1,9 +1,10 @@
 use Rattle.std.proofs.Common.{map, sym, ap, ◌∙◌}
-use Rattle.values_heap.specs.Pages.{own_standings}
-use Rattle.values_heap.specs.Reclamation.{standing_bytes}
-use Rattle.values_heap.specs.View.{object_in}
+use Rattle.values_objects.specs.Pages.{own_standings}
+use Rattle.values_objects.specs.ObjectBytes.{standing_bytes}
+use Rattle.values_objects.specs.Standings.{object_in}
 use Rattle.values_heap.proofs.Places.{told}
-use Rattle.values_heap.proofs.OwnObjects.{are_own, own_numbered}
+use Rattle.values_objects.proofs.AllOwn.{are_own}
+use Rattle.values_heap.proofs.OwnObjects.{own_numbered}
 use Rattle.values_heap.proofs.objects.Objects.free.Goals as goal
 
 pub returns-clause-same : goal.returns-clause-same

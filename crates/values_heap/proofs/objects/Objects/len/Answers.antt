@@ -1,5 +1,5 @@
 use Rattle.std.proofs.Common.{◌+◌, length, refl, ap, ◌∙◌}
-use Rattle.values_heap.specs.Pages.{own_standings}
+use Rattle.values_objects.specs.Pages.{own_standings}
 use Rattle.values_heap.proofs.Places.{all_places}
 use Rattle.values_heap.proofs.objects.Objects.len.Goals as goal
 

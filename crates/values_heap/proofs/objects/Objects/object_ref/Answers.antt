@@ -4,10 +4,11 @@ use Rattle.values_frozen_objects.specs.declared.object.FrozenObject.{FrozenObjec
 use Rattle.values_frozen_objects.specs.Shift.{moved}
 use Rattle.values_frozen_objects.specs.Objects.{frozen_obj}
 use Rattle.values_heap.specs.declared.objects.Spot.TheVariants as s
-use Rattle.values_heap.specs.Looks.{seen_object}
-use Rattle.values_heap.specs.Pages.{own_standings}
-use Rattle.values_heap.specs.Standings.{is_gone}
-use Rattle.values_heap.proofs.Places.{Finds, seen_now, own_now, on_err}
+use Rattle.values_objects.specs.Looks.{seen_object}
+use Rattle.values_objects.specs.Pages.{own_standings}
+use Rattle.values_objects.specs.Standings.{is_gone}
+use Rattle.values_heap.proofs.Places.{Finds, seen_now, own_now}
+use Rattle.values_objects.proofs.ListReads.{on_err}
 use Rattle.values_heap.proofs.objects.Objects.object_ref.Goals as goal
 
 pub returns-in-Own-clause-found : goal.returns-in-Own-clause-found

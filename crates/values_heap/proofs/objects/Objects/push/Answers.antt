@@ -1,8 +1,9 @@
 use Rattle.std.proofs.Common.{◌∷◌, [], ◌++◌, length, false, ap, ◌∙◌, arith}
 use Rattle.std.proofs.lemmas.List.{length-append}
-use Rattle.values_heap.specs.Objects.{object_of}
-use Rattle.values_heap.specs.Pages.{own_standings}
-use Rattle.values_heap.specs.Standings.{own, laid}
+use Rattle.values_objects.specs.Objects.{object_of}
+use Rattle.values_objects.specs.Pages.{own_standings}
+use Rattle.values_objects.specs.Standings.{own}
+use Rattle.values_heap.specs.Ranges.{laid}
 use Rattle.values_heap.proofs.Laid.{order_more}
 use Rattle.values_heap.proofs.Places.{pushed}
 use Rattle.values_heap.proofs.objects.Objects.push.Goals as goal

@@ -1,9 +1,8 @@
 use Rattle.std.proofs.Common.{None, map, option_map, subst, ap}
 use Rattle.values_heap.specs.declared.objects.Spot.TheVariants as s
-use Rattle.values_heap.specs.Objects.{object_of}
-use Rattle.values_heap.specs.Pages.{own_standings}
-use Rattle.values_heap.specs.Standings.{is_lent}
-use Rattle.values_heap.specs.View.{object_in}
+use Rattle.values_objects.specs.Objects.{object_of}
+use Rattle.values_objects.specs.Pages.{own_standings}
+use Rattle.values_objects.specs.Standings.{is_lent, object_in}
 use Rattle.values_heap.proofs.Places.{Finds, seen_now, lent_now, put_now, put_nothing}
 use Rattle.values_heap.proofs.objects.Objects.put.Goals as goal
 

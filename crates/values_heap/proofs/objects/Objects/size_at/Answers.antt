@@ -3,11 +3,11 @@ use Rattle.std.specs.Borrow.{Bor}
 use Rattle.values_frozen_objects.specs.declared.object.FrozenObject.{FrozenObject}
 use Rattle.values_frozen_objects.specs.Objects.{frozen_obj}
 use Rattle.values_heap.specs.declared.objects.Spot.TheVariants as s
-use Rattle.values_heap.specs.MemoryUse.{object_bytes, found_bytes}
-use Rattle.values_heap.specs.Pages.{own_standings}
-use Rattle.values_heap.specs.Reclamation.{copy_bytes}
-use Rattle.values_heap.specs.Standings.{is_gone}
-use Rattle.values_heap.proofs.Places.{Finds, seen_now, own_now, lent_now, moved_bytes, nothing_now, on_err}
+use Rattle.values_objects.specs.ObjectBytes.{object_bytes, found_bytes, copy_bytes}
+use Rattle.values_objects.specs.Pages.{own_standings}
+use Rattle.values_objects.specs.Standings.{is_gone}
+use Rattle.values_heap.proofs.Places.{Finds, seen_now, own_now, lent_now, moved_bytes, nothing_now}
+use Rattle.values_objects.proofs.ListReads.{on_err}
 use Rattle.values_heap.proofs.objects.Objects.size_at.Goals as goal
 
 pub returns-in-Own-clause-found : goal.returns-in-Own-clause-found

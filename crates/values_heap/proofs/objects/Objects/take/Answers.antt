@@ -1,11 +1,11 @@
 use Rattle.std.proofs.Common.{◌≡◌, None, option_map, map, IfOk, sym, subst, ap, ◌∙◌}
 use Rattle.std.specs.Prelude.{slice_get}
 use Rattle.values_heap.specs.declared.objects.Spot.TheVariants as s
-use Rattle.values_heap.specs.Objects.{object_of}
-use Rattle.values_heap.specs.Pages.{own_standings}
-use Rattle.values_heap.specs.Standings.{is_gone, stays}
-use Rattle.values_heap.specs.View.{object_in}
-use Rattle.values_heap.proofs.Places.{Finds, seen_now, own_now, lent_now, gone_stays, told, on_err}
+use Rattle.values_objects.specs.Objects.{object_of}
+use Rattle.values_objects.specs.Pages.{own_standings}
+use Rattle.values_objects.specs.Standings.{is_gone, stays, object_in}
+use Rattle.values_heap.proofs.Places.{Finds, seen_now, own_now, lent_now, gone_stays, told}
+use Rattle.values_objects.proofs.ListReads.{on_err}
 use Rattle.values_heap.proofs.objects.Objects.take.Goals as goal
 
 pub returns-in-Own-clause-same : goal.returns-in-Own-clause-same

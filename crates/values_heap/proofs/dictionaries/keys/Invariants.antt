@@ -1,6 +1,0 @@
-use Rattle.std.proofs.Common.{◌≡◌, take}
-use Rattle.values_semantics.specs.Indexing.{keys_of}
-use Rattle.values_heap.proofs.dictionaries.keys.Given as goal
-
-abbrev pub invariant-loop-i : goal.invariant-loop-i
-invariant-loop-i l = l.all.items ≡ take l.i (keys_of l.entries)

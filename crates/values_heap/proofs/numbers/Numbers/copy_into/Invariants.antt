@@ -1,6 +1,0 @@
-use Rattle.std.proofs.Common.{◌≡◌, take}
-use Rattle.values_heap.specs.Numbers.{shown}
-use Rattle.values_heap.proofs.numbers.Numbers.copy_into.Given as goal
-
-abbrev pub invariant-loop-i : goal.invariant-loop-i
-invariant-loop-i l = l.all.items ≡ take l.i (shown l.self)

@@ -1,0 +1,9 @@
+pub mod ListReads
+pub mod Times
+pub mod DictionaryKeys
+pub mod Standing
+pub mod Lent
+pub mod WholePages
+pub mod PagedObjects
+pub mod Consecutive
+pub mod AllOwn

@@ -1,0 +1,12 @@
+pub mod Numbers
+pub mod Objects
+pub mod Full
+pub mod ListSizes
+pub mod LastWrite
+pub mod Own
+pub mod Standings
+pub mod ObjectBytes
+pub mod Looks
+pub mod Held
+pub mod Wholes
+pub mod Pages
