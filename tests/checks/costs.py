@@ -101,6 +101,12 @@ def files_found_often() -> list[Command]:
     return [*files, *of_build(f"x = glob({includes})\n")]
 
 
+def files_not_found() -> list[Command]:
+    """A glob of 2,000 patterns that begin with a star and find none of 65,536 files."""
+    files = [put(f"s/f{number}.c", "") for number in range(65_536)]
+    return [*files, *of_build('x = glob(["*g" + str(i) + ".c" for i in range(2000)])\n')]
+
+
 def many_directories() -> list[Command]:
     """A glob that finds 20,000 directories."""
     files = [put(f"s/d{number}/x.c", "") for number in range(20_000)]
@@ -166,6 +172,7 @@ COSTS: dict[str, tuple[Callable[[], list[Command]], str]] = {
         "126 packages, 0 targets, 0 faults",
     ),
     "1,000 patterns that each find 30,000 files": (files_found_often, one("s")),
+    "2,000 patterns with a star first, 65,536 files": (files_not_found, one("s")),
     "a glob that finds 20,000 directories": (
         many_directories,
         '{"packages":[{"name":"s","targets":[{"attrs":{},"kind":"filegroup","name":"40001"}]}]}',

@@ -4,14 +4,13 @@ use Rattle.std.specs.Prelude.{filter, is_some, bytes_eq}
 use Rattle.std.specs.List.{list_all, starts_with, before_first, position_or_len}
 use Rattle.std.specs.List.Sorted.{IsPartitionPoint, IsPartitionedBy}
 use Rattle.std.specs.Ordering.{nat_cmp, is_lt, ordering_then}
-use Rattle.std.specs.declared.cmp.Ordering.{Ordering}
 use Rattle.std.specs.declared.cmp.Ordering.TheVariants.{Less, Equal, Greater}
 use Rattle.std.specs.Cmp.Lexicographic.{slice_cmp, nat_list_cmp_total}
-use Rattle.std.proofs.lemmas.Bool.{and_parts, and_from, false≢true, not-true}
+use Rattle.std.proofs.lemmas.Bool.{and_parts, and_from, false≢true}
 use Rattle.std.proofs.lemmas.Cmp.{ranked}
 use Rattle.filetree.proofs.Order.{below}
 use Rattle.filetree.specs.Listings.{sorted_names}
-use Rattle.pattern.specs.Patterns.{is_star, is_double_star, segment_matches}
+use Rattle.pattern.specs.Patterns.{is_star, segment_matches}
 use Rattle.pattern.specs.Starless.{is_starless}
 use Rattle.pattern.specs.Wild.{some_end}
 use Rattle.keys.specs.Ascending.{ascend}

@@ -10,6 +10,7 @@ pub mod LookupValue
 pub mod Lookups
 pub mod Names
 pub mod PossibleNames
+pub mod NameEnds
 pub mod FrontNames
 pub mod NamesInOrder
 pub mod Steps

@@ -9,3 +9,4 @@ pub mod Replies
 pub mod TurnLaws
 pub mod Turns
 pub mod Fronts
+pub mod Ends

@@ -8,6 +8,7 @@ ghost use Rattle.pattern.specs.Globs.{path_in};
 ghost use Rattle.pattern.specs.Patterns as patterns;
 ghost use Rattle.functions_directories.specs.Globs as specs;
 
+use crate::name_ends::{end_of, matches_with_end};
 use crate::ordering::in_order;
 use crate::search::Search;
 use base_types::{Memory, Text};
@@ -121,8 +122,13 @@ fn add_taken(all: &mut Vec<Text>, pattern: &str, names: &[Text]) -> Result<(), M
     ensures { OnOk result (all.new.items ≡ all.old.items ++ filter (specs.takes pattern.now)
         names.now) }
 {
+    let (first, others) = split_pattern(pattern);
+    if !ends_here(others) {
+        return Ok(());
+    }
+    let end = end_of(first);
     for name in names {
-        if matches_name(pattern, name.as_str()) {
+        if matches_with_end(first, end, name.as_str()) {
             all.push(name.share()?)?;
         }
     }

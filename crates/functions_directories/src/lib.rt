@@ -23,6 +23,7 @@ mod build_files;
 mod glob_node;
 mod glob_pattern;
 mod lookup_node;
+mod name_ends;
 mod names_node;
 mod ordering;
 mod possible_names;
