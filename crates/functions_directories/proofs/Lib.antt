@@ -11,6 +11,7 @@ pub mod Lookups
 pub mod Names
 pub mod PossibleNames
 pub mod NameEnds
+pub mod MarkedNames
 pub mod FrontNames
 pub mod NamesInOrder
 pub mod Steps

@@ -50,7 +50,7 @@ matched_rest b f (c ∷ x) q s h m =
     let fit : (b == c) && segment_matches f x ≡ true = sym (ap (λ t. cond t (some_end (segment_matches f) (c ∷ x)) ((b == c) && segment_matches f x)) s) ∙ m in
     later q c x (h x (and_parts (b == c) (segment_matches f x) fit).1)
 
-star_first : (b : ℕ) (f x : List ℕ) → is_star b ≡ true → segment_matches (b ∷ f) x ≡ some_end (segment_matches f) x
+pub star_first : (b : ℕ) (f x : List ℕ) → is_star b ≡ true → segment_matches (b ∷ f) x ≡ some_end (segment_matches f) x
 star_first b f [] s = ap (λ t. cond t (some_end (segment_matches f) []) false) s
 star_first b f (c ∷ x) s = ap (λ t. cond t (some_end (segment_matches f) (c ∷ x)) ((b == c) && segment_matches f x)) s
 

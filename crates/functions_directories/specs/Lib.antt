@@ -10,3 +10,4 @@ pub mod TurnLaws
 pub mod Turns
 pub mod Fronts
 pub mod Ends
+pub mod SegmentMarks

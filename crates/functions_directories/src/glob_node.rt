@@ -1,5 +1,5 @@
 //! The node function of a glob.
-ghost use Rattle.std.specs.Prelude.{◌≡◌, ◌∷◌, ◌++◌, ◌&&◌, length, nat_lt, IfOk, OnOk, map};
+ghost use Rattle.std.specs.Prelude.{◌≡◌, ◌∷◌, ◌++◌, ◌&&◌, true, length, nat_lt, IfOk, IfSome, OnOk, map};
 ghost use Rattle.keys.specs.Ascending.{ascend};
 ghost use Rattle.keys.specs.Turns.{values};
 ghost use Rattle.functions_directories.specs.Globs as specs;
@@ -9,6 +9,7 @@ use crate::glob_pattern::{
     add_all, all_entered, asked_names, continues_here, join_by_slash, others_of, own_found,
     path_in, pattern_below,
 };
+use crate::name_marks::marked_files;
 use crate::ordering::in_order;
 use crate::possible_names::possible_names;
 use crate::reply::DirectoryTurn;
@@ -18,8 +19,8 @@ use keys::{Key, Paths, Value};
 use std::alloc::Global;
 use std::sync::Arc;
 
-// Returns the names of the files in a listing.
-fn files_in(listing: &Value) -> &[Text]
+/// Returns the names of the files in a listing.
+pub fn files_in(listing: &Value) -> &[Text]
     ensures { result.now ≡ specs.files_in listing.now }
 {
     match listing {
@@ -266,6 +267,25 @@ fn after_listing(
     )
 }
 
+// Returns those of the files in a listing that a pattern has to look at. They may have been found by their marks.
+fn possible_files<'a>(
+    pattern: &str,
+    listing: &'a Value,
+    in_order: bool,
+    marked: &'a Option<Vec<Text>>,
+) -> &'a [Text]
+    requires ordered { in_order ≡ true → ascend (specs.files_in listing.now) ≡ true }
+    requires same { IfSome marked.now (λ v. specs.own_names pattern.now v.items ≡ specs.own_names
+        pattern.now (specs.files_in listing.now)) }
+    ensures { specs.own_names pattern.now result.now ≡ specs.own_names pattern.now
+        (specs.files_in listing.now) }
+{
+    match marked {
+        Some(files) => files.as_slice(),
+        None => possible_names(pattern, files_in(listing), in_order),
+    }
+}
+
 // Returns what comes after a listing, of whose names only those are looked at that the pattern can match.
 fn by_listing(
     alloc: Global,
@@ -282,7 +302,8 @@ fn by_listing(
     let ordered = are_in_order(listing);
     let directories = possible_names(search.pattern, directories_in(listing), ordered);
     let names = asked_names(alloc, search, directories)?;
-    let files = possible_names(search.pattern, files_in(listing), ordered);
+    let marked = marked_files(alloc, search.pattern, listing)?;
+    let files = possible_files(search.pattern, listing, ordered, &marked);
     after_listing(alloc, search, files, names.as_slice(), answers)
 }
 

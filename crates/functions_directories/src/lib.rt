@@ -24,6 +24,7 @@ mod glob_node;
 mod glob_pattern;
 mod lookup_node;
 mod name_ends;
+mod name_marks;
 mod names_node;
 mod ordering;
 mod possible_names;

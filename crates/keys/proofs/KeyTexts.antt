@@ -1,5 +1,5 @@
 -- Texts in which no space is come apart at a space, so the text of a glob's key gives its parts back.
-use Rattle.std.proofs.Common.{◌≡◌, ℕ, ◌<◌, List, [], ◌∷◌, ◌++◌, ◌+◌, ◌*◌, ◌==◌, Bool, true, false, cond, codes, refl, sym, ◌∙◌, ap, subst, arith}
+use Rattle.std.proofs.Common.{◌≡◌, ℕ, ◌<◌, List, [], ◌∷◌, ◌++◌, ◌+◌, ◌*◌, ◌==◌, Bool, true, false, cond, codes, refl, sym, ◌∙◌, ap, arith}
 use Rattle.std.specs.declared.cmp.Ordering.{Ordering}
 use Rattle.std.specs.declared.cmp.Ordering.TheVariants.{Less, Equal, Greater}
 use Rattle.std.specs.Ordering.{nat_cmp, ordering_then}
@@ -7,9 +7,8 @@ use Rattle.std.specs.Cmp.{nat_cmp_is, unsigned_Decides}
 use mathlib.Core.Bool.{true≢false}
 use Rattle.std.specs.Cmp.Lexicographic.{slice_cmp}
 use Rattle.std.proofs.lemmas.List.{append_cancel_left, append-nil}
-use Rattle.keys.specs.declared.key.Key.{Key}
 use Rattle.keys.specs.declared.key.Key.TheVariants.{File, Listing, Lookup, Glob, Module, Package, Under}
-use Rattle.keys.specs.Keys.{kind, prefix, key_name, key_text, key_cmp, HasNoSpace, IsReadable}
+use Rattle.keys.specs.Keys.{key_text, HasNoSpace}
 use Rattle.keys.specs.KeyTexts.{TextsTellApart, AreInOrderOfTexts}
 
 -- ---- parts before a space

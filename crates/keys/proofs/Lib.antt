@@ -3,3 +3,4 @@ pub mod KeyTexts
 pub mod CycleLaws
 pub mod LeafReads
 pub mod Ascending
+pub mod MarkLaws

@@ -12,3 +12,5 @@ pub mod Cycles
 pub mod EditLeaves
 pub mod Storage
 pub mod Leaves
+pub mod Marks
+pub mod NameLists

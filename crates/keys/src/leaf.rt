@@ -26,21 +26,25 @@ pub fn is_leaf(key: &Key) -> bool
 }
 
 // Returns the names in a directory, or `None` if there is no such directory.
-fn read_listing(tree: &Tree, directory: &str) -> Result<Option<DirectoryNames>, Memory>
+fn read_listing(
+    alloc: Global,
+    tree: &Tree,
+    directory: &str,
+) -> Result<Option<DirectoryNames>, Memory>
     ensures { IfOk result (λ l. l ≡ option_map specs.listed_of (listing tree.now directory.now)) }
 {
     match tree.listing(directory)? {
         None => Ok(None),
         Some(names) => {
             let Listing { files, directories } = names;
-            Ok(Some(DirectoryNames::new(files, directories)))
+            Ok(Some(DirectoryNames::new(alloc, files, directories)?))
         }
     }
 }
 
 /// Reads the value of a leaf from the files. A file has its text, shared, and a listing has the names in its directory.
 /// The value is empty if there is no such file or directory. Returns `Memory` if an allocation fails.
-pub fn read_leaf(_alloc: Global, tree: &Tree, key: &Key) -> Result<Value, Memory>
+pub fn read_leaf(alloc: Global, tree: &Tree, key: &Key) -> Result<Value, Memory>
     requires { IsTrue (specs.is_leaf key.now) }
     ensures { IfOk result (λ v. specs.read tree.now key.now ≡ Some v) }
 {
@@ -49,7 +53,11 @@ pub fn read_leaf(_alloc: Global, tree: &Tree, key: &Key) -> Result<Value, Memory
             None => Ok(Value::File(None)),
             Some(text) => Ok(Value::File(Some(text.share()?))),
         },
-        Key::Listing(directory) => Ok(Value::Listing(read_listing(tree, directory.as_str())?)),
+        Key::Listing(directory) => Ok(Value::Listing(read_listing(
+            alloc,
+            tree,
+            directory.as_str(),
+        )?)),
         Key::Lookup(_) => unreachable!(),
         Key::Glob(_, _, _) => unreachable!(),
         Key::Module(_) => unreachable!(),

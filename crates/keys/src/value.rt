@@ -5,8 +5,10 @@ ghost use Rattle.std.specs.Cmp.Lexicographic.{pointwise};
 ghost use Rattle.std.specs.Arc.{arc_value};
 ghost use Rattle.keys.specs.Ascending as order;
 ghost use Rattle.keys.specs.Values.{text_eq, build_eq, listed_eq, fault_eq, value_eq};
+ghost use Rattle.keys.specs.NameLists.{AreMarks};
 ghost use Rattle.keys.specs.ValueLaws.{builds_equiv, names_equiv, listed_equiv, faults_equiv, values_equiv};
 
+use crate::marks::all_marks;
 use base_types::{Memory, Text};
 use std::alloc::Global;
 use std::marker::Model;
@@ -96,69 +98,105 @@ fn ascend(names: &[Text]) -> bool
     names.is_sorted_by(|name, next| name.cmp(next).is_lt())
 }
 
-/// The names in a directory: of its files, and of its subdirectories, each in byte order. Whether they are in order was
-/// found out when they were made.
-pub struct DirectoryNames {
+// Where a directory has more files, their marks are kept.
+const MANY: usize = 256;
+
+// What is kept of the names in a directory: whether they are in order was found out when they were made, and so were
+// the marks of the files, of which there are none where the files are few.
+#[derive(Drop)]
+struct NameLists {
     files: Names,
     directories: Names,
     in_order: bool,
+    marks: Vec<u64>,
+}
+
+/// The names in a directory: of its files, and of its subdirectories, each in byte order.
+pub struct DirectoryNames {
+    // Boxed, so that the many other values are small.
+    lists: Box<NameLists>,
 }
 
 impl Drop for DirectoryNames {
     fn drop(self) {
-        let DirectoryNames {
-            files: _,
-            directories: _,
-            in_order: _,
-        } = self;
+        let DirectoryNames { lists: _ } = self;
     }
 }
 
 impl Model for DirectoryNames {
-    ghost use Rattle.std.specs.Prelude.{◌≡◌, ◌&&◌};
-    ghost use Rattle.keys.specs.Ascending.{ascend};
     ghost use Rattle.keys.specs.Directories.{DirectoryView};
+    ghost use Rattle.keys.specs.NameLists.{AreKnown};
 
     ghost Value = { DirectoryView };
 
-    ghost view = { λ d. record { files = d.files; directories = d.directories } };
+    ghost view = { λ d.
+        record { files = d.lists.value.files; directories = d.lists.value.directories } };
 
-    ghost invariant = { λ d. d.in_order ≡ ascend d.files && ascend d.directories };
+    ghost invariant = { λ d. AreKnown d.lists.value };
+}
+
+// Returns the marks of the names of files, or none where they are few.
+fn marks_of(alloc: Global, files: &[Text]) -> Result<Vec<u64>, Memory>
+    ensures { IfOk result (λ v. AreMarks files.now v.items) }
+{
+    if files.len() <= MANY {
+        return Ok(Vec::new(alloc));
+    }
+    all_marks(alloc, files)
 }
 
 impl DirectoryNames {
     /// Makes the names in a directory from the names of its files and subdirectories.
-    pub fn new(files: Vec<Text>, directories: Vec<Text>) -> DirectoryNames
-        ensures files { result.files ≡ files.items }
-        ensures directories { result.directories ≡ directories.items }
+    ///
+    /// # Errors
+    ///
+    /// Returns `Memory` if an allocation fails.
+    pub fn new(
+        alloc: Global,
+        files: Vec<Text>,
+        directories: Vec<Text>,
+    ) -> Result<DirectoryNames, Memory>
+        ensures files { IfOk result (λ d. d.files ≡ files.items) }
+        ensures directories { IfOk result (λ d. d.directories ≡ directories.items) }
     {
         let in_order = ascend(files.as_slice()) && ascend(directories.as_slice());
-        DirectoryNames {
+        let marks = marks_of(alloc, files.as_slice())?;
+        let lists = NameLists {
             files: Names::new(files),
             directories: Names::new(directories),
             in_order,
-        }
+            marks,
+        };
+        let lists = Box::new(alloc, lists)?;
+        Ok(DirectoryNames { lists })
     }
 
     /// Returns the names of the files.
     pub fn files(&self) -> &[Text]
         ensures { result.now ≡ self.now.files }
     {
-        self.files.as_slice()
+        self.lists.files.as_slice()
     }
 
     /// Returns the names of the subdirectories.
     pub fn directories(&self) -> &[Text]
         ensures { result.now ≡ self.now.directories }
     {
-        self.directories.as_slice()
+        self.lists.directories.as_slice()
     }
 
     /// Returns whether the names of the files, and those of the subdirectories, are in byte order, each once.
     pub fn are_in_order(&self) -> bool
         ensures { result ≡ order.ascend self.now.files && order.ascend self.now.directories }
     {
-        self.in_order
+        self.lists.in_order
+    }
+
+    /// Returns the marks of the names of the files, or none where the files are few: those that `pair_marks` gives.
+    pub fn marks(&self) -> &[u64]
+        ensures { AreMarks self.now.files result.now }
+    {
+        self.lists.marks.as_slice()
     }
 }
 
@@ -168,7 +206,7 @@ impl PartialEq for DirectoryNames {
     ghost laws = { partial_equiv_from_equiv listed_equiv };
 
     fn eq(&self, other: &DirectoryNames) -> bool {
-        self.files == other.files && self.directories == other.directories
+        self.files() == other.files() && self.directories() == other.directories()
     }
 }
 
