@@ -249,22 +249,22 @@ not_among groups key h m = true_false (member_among groups key m.1 m.2) h
 
 -- the same of the reverse dependencies that are in a record
 module _ (old new : Records) (member : Key) (user : ℕ) (e w : NodeRecord) (u : Writes old new member w) (had : Some e ≡ kept_at old member) where
-  list_now : numbers_of new member ≡ w.users.items
+  list_now : numbers_of new member ≡ w.users
   list_now = ap rdep_ids u.there
 
   lists_elsewhere : (j : Key) → member ≢ j → numbers_of new j ≡ numbers_of old j
   lists_elsewhere j n = ap rdep_ids (u.others j n)
 
-  pub linked_through : w.users.items ≡ e.users.items ++ user ∷ [] → HasLinked (numbers_of old) (numbers_of new) member user
-  linked_through a = linked (numbers_of old) (numbers_of new) member user w.users.items list_now lists_elsewhere
+  pub linked_through : w.users ≡ e.users ++ user ∷ [] → HasLinked (numbers_of old) (numbers_of new) member user
+  linked_through a = linked (numbers_of old) (numbers_of new) member user w.users list_now lists_elsewhere
       (subst (λ l. IsAdded (numbers_of old member) l user) (sym (a ∙ ap (λ o. rdep_ids o ++ user ∷ []) had)) (list_added (numbers_of old member) user))
 
-  pub unlinked_through : w.users.items ≡ filter (λ k. not (k == user)) e.users.items → HasUnlinked (numbers_of old) (numbers_of new) member user
-  unlinked_through a = unlinked (numbers_of old) (numbers_of new) member user w.users.items list_now lists_elsewhere
+  pub unlinked_through : w.users ≡ filter (λ k. not (k == user)) e.users → HasUnlinked (numbers_of old) (numbers_of new) member user
+  unlinked_through a = unlinked (numbers_of old) (numbers_of new) member user w.users list_now lists_elsewhere
       (subst (λ l. IsRemoved (numbers_of old member) l user) (sym (a ∙ ap (λ o. filter (λ k. not (k == user)) (rdep_ids o)) had)) (list_removed (numbers_of old member) user))
 
-  pub same_through : w.users.items ≡ e.users.items → SameUsers (numbers_of old) (numbers_of new)
-  same_through a = same_set (numbers_of old) (numbers_of new) member user w.users.items list_now lists_elsewhere (a ∙ ap rdep_ids had)
+  pub same_through : w.users ≡ e.users → SameUsers (numbers_of old) (numbers_of new)
+  same_through a = same_set (numbers_of old) (numbers_of new) member user w.users list_now lists_elsewhere (a ∙ ap rdep_ids had)
 
 -- one more element of a list
 pub in_taken : {X : Type 0} (xs : List X) (n : ℕ) (x j : X) → x ≡ slice_index_or xs n x → n < length xs → In j (take (n + 1) xs) → In j (take n xs) ⊎ (x ≡ j)

@@ -1,10 +1,8 @@
 -- Groups that are borrowed, by the numbers of their members.
 use Rattle.std.proofs.Common.{◌≡◌, ◌∙◌, ℕ, zero, suc, ◌<◌, List, [], ◌∷◌, ◌++◌, Some, refl, ap, length}
 use Rattle.std.specs.Prelude.{slice_get, All}
-use Rattle.std.specs.Option.{option_map, option_to_list}
-use Rattle.std.proofs.lemmas.List.{length-map}
+use Rattle.std.specs.Option.{option_to_list}
 use Rattle.std.proofs.lemmas.List.Elements.{All-head, All-tail}
-use Rattle.std.proofs.lemmas.Option.{slice_get-map}
 use Rattle.keys.specs.declared.key.Key.{Key}
 use Rattle.node_table.specs.Tables.{key_at}
 use Rattle.node_table.specs.Flats.{members_in}

@@ -1,5 +1,5 @@
 -- Keys by the numbers of their records.
-use Rattle.std.proofs.Common.{drop, add-one, take, ◌+◌, ◌≡◌, ◌∙◌, ℕ, zero, suc, ◌<◌, List, [], ◌∷◌, ◌++◌, Option, Some, None, refl, sym, ap, subst, length, arith, append-nil, append_assoc, slice_index_or, inl, inr, ◌≤◌, ◌||◌, map}
+use Rattle.std.proofs.Common.{drop, add-one, take, ◌+◌, ◌≡◌, ◌∙◌, ℕ, zero, suc, ◌<◌, List, [], ◌∷◌, ◌++◌, Option, Some, None, refl, sym, ap, subst, length, arith, append_assoc, slice_index_or, inl, inr, ◌≤◌, ◌||◌, map}
 use Rattle.std.specs.Prelude.{slice_get, All, sum_by}
 use Rattle.std.specs.List.{flat_map, concat, list_any}
 use Rattle.std.specs.Option.{option_to_list, IsSome, is_some, unwrap_or}

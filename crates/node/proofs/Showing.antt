@@ -103,7 +103,7 @@ writes_sets old new key w u = record { there = λ i. option_map (record_of (u.ke
 -- and keeps its reverse dependencies
 pub writes_lists : (old new : Records) (key : Key) (e w : NodeRecord) → kept_at old key ≡ Some e → w.users ≡ e.users → Writes old new key w → (j : Key) → numbers_of new j ≡ numbers_of old j
 writes_lists old new key e w h same u j = elim (decide_key key j) [
-  | inl q ↦ subst (λ x. numbers_of new x ≡ numbers_of old x) q (ap rdep_ids u.there ∙ (λ i. (same i).items) ∙ sym (ap rdep_ids h))
+  | inl q ↦ subst (λ x. numbers_of new x ≡ numbers_of old x) q (ap rdep_ids u.there ∙ same ∙ sym (ap rdep_ids h))
   | inr n ↦ ap rdep_ids (u.others j n)
 ]
 
@@ -118,7 +118,7 @@ lists_same old new d e s n h =
     lists_by_number new (subst (λ ks. IsDistinct key_eq ks) (sym e) d) k.0 n (key_same old new e n ∙ k.1) ∙ s k.0 ∙ sym (lists_by_number old d k.0 n k.1)
 
 -- a record without reverse dependencies is put after the others
-pub pushed_lists : (old new : Records) (key : Key) (e : NodeRecord) → new ≡ old ++ (key, e) ∷ [] → e.users.items ≡ [] → kept_at old key ≡ None → (j : Key) → numbers_of new j ≡ numbers_of old j
+pub pushed_lists : (old new : Records) (key : Key) (e : NodeRecord) → new ≡ old ++ (key, e) ∷ [] → e.users ≡ [] → kept_at old key ≡ None → (j : Key) → numbers_of new j ≡ numbers_of old j
 pushed_lists old new key e p u none j = ap (λ (es : Records). numbers_of es j) p ∙ elim (decide_key key j) [
   | inl q ↦ subst (λ x. numbers_of (old ++ (key, e) ∷ []) x ≡ numbers_of old x) q (ap rdep_ids (value_pushed old key e none) ∙ u ∙ sym (ap rdep_ids none))
   | inr n ↦ ap rdep_ids (others_pushed old key e j n)

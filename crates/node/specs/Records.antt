@@ -32,7 +32,7 @@ kept_at records k = value_of records k
 -- the numbers of the reverse dependencies that are in a record
 abbrev pub rdep_ids : Option NodeRecord → List ℕ
 rdep_ids None = []
-rdep_ids (Some e) = e.users.items
+rdep_ids (Some e) = e.users
 
 -- the numbers of the reverse dependencies of j
 abbrev pub numbers_of : Records → Key → List ℕ

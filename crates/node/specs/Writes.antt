@@ -53,4 +53,4 @@ SameSets old new = (j k : Key) → In k (users_at new j) ↔ In k (users_at old 
 
 -- a record without groups and reverse dependencies was put at the key
 abbrev pub HasPlaced : Records → Records → Key → Value → ℕ → Type 0
-HasPlaced old new key value version = (e : NodeRecord) × (new ≡ old ++ (key, e) ∷ []) × (row_of e ≡ record { value = value; groups = []; settled_at = version; changed_at = version; dirty = false }) × (e.users.items ≡ [])
+HasPlaced old new key value version = (e : NodeRecord) × (new ≡ old ++ (key, e) ∷ []) × (row_of e ≡ record { value = value; groups = []; settled_at = version; changed_at = version; dirty = false }) × (e.users ≡ [])

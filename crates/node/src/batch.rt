@@ -17,7 +17,7 @@ use crate::records::Records;
 use crate::settling::{kept_members, place, write};
 use base_types::Memory;
 use keys::Key;
-use node_table::FlatGroups;
+use node_table::NodeIdGroups;
 use std::alloc::Global;
 
 // Places a record without groups and reverse dependencies at the key of an entry, if the key has none.
@@ -79,13 +79,17 @@ fn remove_all(records: &mut Records, first: usize)
 }
 
 // Returns the groups of each entry, by the numbers of their members.
-fn flats_of(alloc: Global, records: &Records, entries: &[Entry]) -> Result<Vec<FlatGroups>, Memory>
+fn flats_of(
+    alloc: Global,
+    records: &Records,
+    entries: &[Entry],
+) -> Result<Vec<NodeIdGroups>, Memory>
     requires { HaveMembers (records_of records.now) entries.now }
     ensures { IfOk result (λ flats. flats.items ≡ flats_in records.now entries.now) }
 {
     let mut flats = Vec::with_capacity(alloc, entries.len())?;
     for entry in entries {
-        flats.push(FlatGroups::of(alloc, records, entry.groups.as_slice())?)?;
+        flats.push(NodeIdGroups::of(alloc, records, entry.groups.as_slice())?)?;
     }
     Ok(flats)
 }
@@ -127,7 +131,7 @@ fn cut_all(records: &mut Records, entries: &[Entry])
 }
 
 // Writes an entry into its key's record, and removes the edges to members that are no longer in its groups.
-fn write_entry(records: &mut Records, entry: Entry, flat: FlatGroups, version: u32)
+fn write_entry(records: &mut Records, entry: Entry, flat: NodeIdGroups, version: u32)
     requires asks { AsksNumbers records.old }
     requires members { HasReadyFlat records.old entry flat }
     requires ready { IsToBeWritten records.old entry }
@@ -152,7 +156,7 @@ fn write_entry(records: &mut Records, entry: Entry, flat: FlatGroups, version: u
 fn write_all(
     records: &mut Records,
     mut entries: Vec<Entry>,
-    mut flats: Vec<FlatGroups>,
+    mut flats: Vec<NodeIdGroups>,
     version: u32,
 )
     requires distinct { AreDistinct records.old }

@@ -1,5 +1,5 @@
 //! Reverse edges, from a key to those whose records have it in a group. They are in the key's own record.
-ghost use Rattle.std.specs.Prelude.{◌≡◌, ◌<◌, All, [], ◌∷◌, ◌++◌, not, filter, length, OnOk, OnErr, IfOk, IfSome, IfNone, IsSome, IsTrue, Some, ◌↔◌, ◌==◌};
+ghost use Rattle.std.specs.Prelude.{◌≡◌, ◌<◌, All, [], length, OnOk, OnErr, IfOk, IfSome, IfNone, IsSome, IsTrue, Some, ◌↔◌};
 ghost use Rattle.engine_semantics.specs.Value.{In, IsMember};
 ghost use Rattle.std.specs.List.{list_any};
 ghost use Rattle.node_table.specs.Tables.{AreDistinct, key_at};
@@ -27,22 +27,6 @@ fn add(set: &mut BTreeSet<Key>, key: Key) -> Result<(), Memory>
     Ok(())
 }
 
-// Adds a reverse dependency to a list.
-fn add_rdep(list: &mut Vec<NodeId>, user: NodeId) -> Result<(), Memory>
-    ensures ok { OnOk result (list.new.items ≡ list.old.items ++ user ∷ []) }
-    ensures err { OnErr result (list.new.items ≡ list.old.items) }
-{
-    list.push(user)?;
-    Ok(())
-}
-
-// Removes a reverse dependency from a list, as often as it is there.
-fn remove_rdep(list: &mut Vec<NodeId>, user: NodeId)
-    ensures { list.new.items ≡ filter (λ n. not (n == user)) list.old.items }
-{
-    list.retain(|n| n.place() != user.place());
-}
-
 // Returns whether a key is in a set.
 fn has(set: &BTreeSet<Key>, key: &Key) -> bool
     ensures { IsTrue result ↔ In key.now set.now.keys }
@@ -59,7 +43,7 @@ fn link(records: &mut Records, member: &Key, user: NodeId) -> Result<(), Memory>
     ensures same { KeepsRecords records.old records.new }
 {
     if let Some(kept) = records.get_mut(member) {
-        add_rdep(&mut kept.users, user)?;
+        kept.users.push(user)?;
     }
     Ok(())
 }
@@ -70,7 +54,7 @@ fn unlink(records: &mut Records, member: &Key, user: NodeId)
     ensures same { KeepsRecords records.old records.new }
 {
     if let Some(kept) = records.get_mut(member) {
-        remove_rdep(&mut kept.users, user);
+        kept.users.remove(user);
     }
 }
 
@@ -129,7 +113,7 @@ fn link_at(records: &mut Records, member: NodeId, user: NodeId) -> Result<(), Me
         (SameUsers (numbers_of records.old) (numbers_of records.new)) }
     ensures same { KeepsRecords records.old records.new }
 {
-    add_rdep(&mut records.value_mut(member).users, user)?;
+    records.value_mut(member).users.push(user)?;
     Ok(())
 }
 
@@ -277,7 +261,7 @@ fn unlink_at(records: &mut Records, member: NodeId, user: NodeId)
         → HasUnlinked (numbers_of records.old) (numbers_of records.new) k user }
     ensures same { KeepsRecords records.old records.new }
 {
-    remove_rdep(&mut records.value_mut(member).users, user);
+    records.value_mut(member).users.remove(user);
 }
 
 /// Removes the record with a number from the reverse dependencies of these members, but not of those that it has in a

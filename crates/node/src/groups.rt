@@ -4,7 +4,7 @@ ghost use Rattle.node_table.specs.Flats.{groups_in, members_in};
 
 use crate::records::Records;
 use keys::Key;
-use node_table::{FlatGroups, NodeId};
+use node_table::{NodeId, NodeIdGroups};
 use std::marker::Model;
 
 /// The groups of a record, in the order in which they were asked for. They are borrowed: a member is read through the
@@ -12,7 +12,7 @@ use std::marker::Model;
 #[derive(Drop)]
 pub struct Groups<'a> {
     records: &'a Records,
-    groups: &'a FlatGroups,
+    groups: &'a NodeIdGroups,
 }
 
 impl<'a> Model for Groups<'a> {
@@ -29,7 +29,7 @@ impl<'a> Model for Groups<'a> {
 
 impl<'a> Groups<'a> {
     // Makes the groups from groups of numbers of these records.
-    pub(crate) fn new(records: &'a Records, groups: &'a FlatGroups) -> Groups<'a>
+    pub(crate) fn new(records: &'a Records, groups: &'a NodeIdGroups) -> Groups<'a>
         requires { All (All (λ n. n < length records.now)) groups.now }
         ensures { result ≡ groups_in records.now groups.now }
     {

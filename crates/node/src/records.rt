@@ -1,6 +1,6 @@
 //! What a graph keeps.
 use keys::{Key, Value};
-use node_table::{FlatGroups, NodeId, Table};
+use node_table::{NodeIdGroups, NodeIdList, Table};
 use std::sync::Arc;
 
 /// What is kept of a node that was settled. A contract sees all but the reverse dependencies, and the members of the
@@ -10,9 +10,9 @@ pub struct NodeRecord {
     /// Its value.
     pub value: Arc<Value>,
     /// The groups that it asked for, by the numbers of their members' records.
-    pub groups: FlatGroups,
+    pub groups: NodeIdGroups,
     /// The numbers of the records that have its key in a group.
-    pub users: Vec<NodeId>,
+    pub users: NodeIdList,
     /// The version at which it was last settled.
     pub settled_at: u32,
     /// The version at which its value last changed.

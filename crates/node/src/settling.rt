@@ -15,7 +15,7 @@ use crate::edges::{drop_edges_except, drop_edges_to, link_members, members_besid
 use crate::records::{NodeRecord, Records};
 use base_types::Memory;
 use keys::{Key, Value};
-use node_table::{FlatGroups, NodeId};
+use node_table::{NodeId, NodeIdGroups, NodeIdList};
 use std::alloc::Global;
 use std::mem;
 use std::sync::Arc;
@@ -51,9 +51,9 @@ pub fn write(
     records: &mut Records,
     number: NodeId,
     value: Arc<Value>,
-    groups: FlatGroups,
+    groups: NodeIdGroups,
     version: u32,
-) -> FlatGroups
+) -> NodeIdGroups
     requires within { number < length records.old }
     requires distinct { AreDistinct records.old }
     ensures updates { (k : Key) (e : NodeRecord) → key_at records.old number ≡ Some k
@@ -98,8 +98,8 @@ pub fn place(
 {
     let kept = NodeRecord {
         value: Arc::try_clone(value)?,
-        groups: FlatGroups::new(alloc),
-        users: Vec::new(alloc),
+        groups: NodeIdGroups::new(),
+        users: NodeIdList::new(alloc),
         settled_at: version,
         changed_at: version,
         dirty: false,
@@ -133,7 +133,7 @@ pub fn rewrite(
 {
     let keep = members_beside(alloc, kept_members(records, user), groups.as_slice())?;
     let linked = members_with(alloc, records, kept_members(records, user))?;
-    let flat = FlatGroups::of(alloc, records, groups.as_slice())?;
+    let flat = NodeIdGroups::of(alloc, records, groups.as_slice())?;
     if let Err(error) = link_members(records, flat.members(), &linked, user) {
         drop_edges_to(records, flat.members(), user);
         return Err(error);

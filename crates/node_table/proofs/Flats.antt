@@ -173,6 +173,11 @@ module _ {V : Type 0} (es : List (Key × V)) where
   have_group groups i g e h all =
       subst (All (HasNumber es)) (get_or-map (λ (x : Vec Key Global). x.items) groups i g g.items h ∙ ap (λ (x : Vec Key Global). x.items) (sym e)) (all i g.items (omega (arith, length-map groups (λ (x : Vec Key Global). x.items))))
 
+  pub has_member : (groups : List (Vec Key Global)) (i : ℕ) (g : Vec Key Global) → g ≡ get_or groups i g → i < length groups → HaveNumbers es (items_of groups)
+      → (ks : List Key) → ks ≡ g.items → (j : ℕ) (k : Key) → k ≡ get_or ks j k → j < length ks → HasNumber es k
+  has_member groups i g e h all ks is j k m n =
+      subst (HasNumber es) (sym m) (subst (All (HasNumber es)) (sym is) (have_group groups i g e h all) j k n)
+
 front_whole : {X : Type 0} (xs ys : List X) (n : ℕ) → n < length xs → slice_get (xs ++ ys) n ≡ slice_get xs n
 front_whole [] ys n h = absurd (omega arith)
 front_whole (x ∷ xs) ys zero h = refl

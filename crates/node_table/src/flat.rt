@@ -1,7 +1,7 @@
 //! Groups of numbers in one list.
 ghost use Rattle.std.specs.Prelude.{◌≡◌, ◌<◌, ◌+◌, ◌++◌, [], Some, length, map, slice_get, All, IfOk, OnOk};
 ghost use Rattle.std.specs.List.{concat};
-ghost use Rattle.node_table.specs.Flats.{items_of, HasNumber, HaveNumbers, numbers_in, groups_in, ends, start, sizes};
+ghost use Rattle.node_table.specs.Flats.{items_of, HasNumber, HaveNumbers, numbers_in, ends, start, sizes};
 
 use crate::number::NodeId;
 use crate::table::Table;
@@ -10,8 +10,8 @@ use keys::Key;
 use std::alloc::Global;
 use std::marker::Model;
 
-/// Groups of numbers, in one list: how many groups there are, where each ends among the members, and the members. It
-/// takes no memory if there is no group. A contract sees the groups.
+/// Groups of numbers, in one list: how many groups there are, where each ends among the members, and the members. A
+/// contract sees the groups.
 #[derive(Drop)]
 pub struct FlatGroups {
     words: Vec<NodeId>,
@@ -74,22 +74,11 @@ fn push_groups<V>(
 }
 
 impl FlatGroups {
-    /// Makes a list without groups.
-    pub fn new(alloc: Global) -> FlatGroups
-        ensures { result ≡ [] }
-    {
-        FlatGroups {
-            words: Vec::new(alloc),
-        }
-    }
-
     /// Makes a list of these groups by the numbers of their members, which are in the table. Returns `Memory` if an
     /// allocation fails, or if there are more groups or members than 32 bits can count.
     pub fn of<V>(alloc: Global, table: &Table<V>, groups: &[Vec<Key>]) -> Result<FlatGroups, Memory>
         requires { HaveNumbers table.now (items_of groups.now) }
-        ensures numbers { IfOk result
-            (λ flat. flat ≡ map (numbers_in table.now) (items_of groups.now)) }
-        ensures keys { IfOk result (λ flat. groups_in table.now flat ≡ items_of groups.now) }
+        ensures { IfOk result (λ flat. flat ≡ map (numbers_in table.now) (items_of groups.now)) }
     {
         let mut words = Vec::new(alloc);
         if groups.is_empty() {
@@ -103,8 +92,6 @@ impl FlatGroups {
         let all = push_ends(&mut words, groups)?;
         words.reserve_exact(all as usize)?;
         push_groups(&mut words, table, groups)?;
-        // `len` says that no key is in the table twice.
-        let _keys = table.len();
         Ok(FlatGroups { words })
     }
 
